@@ -1,0 +1,6 @@
+pub mod Blanks
+pub mod Inserts
+pub mod Puts
+pub mod Searches
+pub mod Arrays
+pub mod Flags

@@ -1,0 +1,4 @@
+pub mod Rising
+pub mod Writes
+pub mod Lists
+pub mod Items
