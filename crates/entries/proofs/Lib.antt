@@ -1,3 +1,5 @@
+pub mod Counts
+pub mod Cards
 pub mod Blanks
 pub mod Inserts
 pub mod Puts

@@ -1,3 +1,6 @@
+pub mod Codings
+pub mod Counts
+pub mod Cards
 pub mod Rising
 pub mod Writes
 pub mod Lists

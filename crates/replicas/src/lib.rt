@@ -1,0 +1,12 @@
+// Replicas of a book: page replicas and undo replicas over one record log.
+mod logs;
+pub mod pages;
+pub mod replica;
+pub mod undos;
+
+pub use logs::Record;
+pub use pages::PageReplica;
+pub use replica::LentReplica;
+pub use replica::Refusal;
+pub use replica::Replica;
+pub use undos::UndoReplica;

@@ -1,0 +1,3 @@
+// The calls on an undo replica.
+ghost use mathlib.Core.Path.{_≡_};
+use super::UndoReplica;

@@ -1,0 +1,2 @@
+// Ring buffers over lent memory.
+pub mod ring;
