@@ -4,3 +4,6 @@ pub mod Logged
 pub mod Overlays
 pub mod Undone
 pub mod Turns
+pub mod Backed
+pub mod PageLaws
+pub mod UndoLaws

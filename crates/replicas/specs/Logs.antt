@@ -3,7 +3,7 @@ use mathlib.Core.Path.{_≡_}
 use mathlib.Core.Bool.{true}
 use mathlib.Core.List.{List}
 use Prim.Native.Nat.{ℕ, _+_, _-_, _≤_}
-use Rattle.rings.specs.Held.{held}
+use Rattle.rings.specs.Held.{held, size}
 use Rattle.entries.specs.declared.writes.Write.{Write}
 use Rattle.replicas.specs.declared.logs.Record.{Record}
 use Rattle.replicas.specs.declared.logs.Log.{Log}
@@ -21,3 +21,10 @@ setsOf l = cut (l .base) (l .version - l .base) (records l)
 -- the versions of the records never fall, and all are above the base and up to the version
 abbrev pub Kept : Log → Type 0
 Kept l = (l .base ≤ l .version) × (l .version ≤ lastVersion) × (ordered (l .base + 1) (l .version) (records l) ≡ true)
+
+-- a log with this base, version, records and room for records
+pub record Holds (l : Log) (base version : ℕ) (rs : List Record) (capacity : ℕ) : Type 0 where
+  pub at : l .base ≡ base
+  pub up : l .version ≡ version
+  pub with : records l ≡ rs
+  pub room : size (l .ring) ≡ capacity

@@ -1,6 +1,7 @@
 // The log of a replica: one record for each write that it keeps, in a ring over lent memory.
 use rings::ring::Ring;
 
+pub mod calls;
 pub mod scans;
 
 // One write of a version's set.
