@@ -7,3 +7,4 @@ pub mod Turns
 pub mod Backed
 pub mod PageLaws
 pub mod UndoLaws
+pub mod History

@@ -8,14 +8,14 @@ use native.Mathlib.Omega.{arith}
 use lib.Dec.{leb}
 use lib.ListN.{length, getD, set, drop, replicate}
 use Rattle.std.specs.declared.result.Result.the-variants.{Ok}
-use Rattle.std.proofs.shelf.Lists.{nil-from-length}
+use Rattle.std.proofs.shelf.Lists.{nil-from-length, drop-all}
 use Rattle.rings.specs.Held.{size}
 use Rattle.entries.specs.declared.writes.Write.{Write}
 use Rattle.entries.specs.Rising.{rising}
 use Rattle.replicas.specs.declared.logs.Log.{Log}
 use Rattle.replicas.specs.declared.undos.UndoReplica.{UndoReplica}
 use Rattle.replicas.specs.Overlay.{joined, oldestWord, over, laid, replaced}
-use Rattle.replicas.specs.Model.{cleared, opened, contentsAt, admission, openAnswer, afterOpen, readAnswer, takeAnswer, afterTake, forgetAnswer, afterForget}
+use Rattle.replicas.specs.Model.{cleared, opened, versionOf, contentsAt, admission, openAnswer, afterOpen, readAnswer, takeAnswer, afterTake, forgetAnswer, afterForget}
 use Rattle.replicas.specs.Records.{plain, marked, upto}
 use Rattle.replicas.specs.Logs.{records, setsOf, Holds, Kept}
 use Rattle.replicas.specs.Undos.{undoModel, redone}
@@ -65,6 +65,12 @@ module _ (u : UndoReplica) where
   -- the contents at a version are the page with the replaced words of the later sets laid over it
   undo-contents : (at : ℕ) → contentsAt (undoModel page log) at ≡ over page (joined (drop (at - log .base) (setsOf log)))
   undo-contents at = overs-redone page (at - log .base) (setsOf log)
+
+  -- the page is the contents at the version
+  pub undo-newest : page ≡ contentsAt (undoModel page log) (versionOf (undoModel page log))
+  undo-newest =
+      let n = length-redone page (setsOf log) in
+      sym (undo-contents (versionOf (undoModel page log)) ∙ ap (λ ss. over page (joined ss)) (drop-all _ (setsOf log) (omega arith)))
 
   -- at a version that is kept, with `end` records up to it
   module _ (at : ℕ) (y : (leb (log .base) at && leb at (log .version)) ≡ true) (end : ℕ) (e : end ≡ upto at (records log)) where

@@ -4,3 +4,4 @@ pub mod Records
 pub mod Logs
 pub mod Pages
 pub mod Undos
+pub mod Laws

@@ -1,4 +1,5 @@
 // Replicas of a book: page replicas and undo replicas over one record log.
+pub mod laws;
 mod logs;
 pub mod pages;
 pub mod replica;

@@ -33,6 +33,18 @@ impl<'a> Log<'a> {
         }
     }
 
+    // The cells again.
+    pub(crate) fn into_cells(self) -> &'a mut [Record]
+        ensures { λ r. ⌜ length (now r) ≡ size (self .entry .ring) ⌝ }
+    {
+        let Log {
+            ring,
+            base: _,
+            version: _,
+        } = self;
+        ring.into_cells()
+    }
+
     // Lets every record go.
     pub(crate) fn clear(&mut self)
         ensures { λ _. ⌜ Holds (now (self .exit)) 0 0 [] (size (now (self .entry) .ring)) ⌝ }

@@ -23,6 +23,16 @@ impl<'a> PageReplica<'a> {
             log: Log::new(records),
         }
     }
+
+    // The page and the records again: the page holds the contents at the base.
+    pub fn into_buffers(self) -> (&'a mut [u64], &'a mut [Record])
+        ensures page { λ r. ⌜ now (r .0) ≡ pageModel (now (self .entry .page .words)) (self .entry .log) .contents ⌝ }
+        ensures records { λ r. ⌜ length (now (r .1)) ≡ pageModel (now (self .entry .page .words)) (self .entry .log) .capacity ⌝ }
+    {
+        let PageReplica { page, log } = self;
+        let Page { words } = page;
+        (words, log.into_cells())
+    }
 }
 
 pub impl<'a> Replica for PageReplica<'a> as PageReplicaReplica {

@@ -2,7 +2,7 @@
 ghost use mathlib.Core.Path.{_≡_};
 ghost use denote.Ref.{now};
 ghost use lib.ListN.{length};
-ghost use Rattle.replicas.specs.Model.{opened};
+ghost use Rattle.replicas.specs.Model.{opened, versionOf, contentsAt};
 ghost use Rattle.replicas.specs.Undos.{undoModel};
 use super::UndoReplica;
 use crate::logs::Log;
@@ -22,6 +22,16 @@ impl<'a> UndoReplica<'a> {
             page: Page { words: page },
             log: Log::new(records),
         }
+    }
+
+    // The page and the records again: the page holds the contents at the version.
+    pub fn into_buffers(self) -> (&'a mut [u64], &'a mut [Record])
+        ensures page { λ r. ⌜ now (r .0) ≡ contentsAt (undoModel (now (self .entry .page .words)) (self .entry .log)) (versionOf (undoModel (now (self .entry .page .words)) (self .entry .log))) ⌝ }
+        ensures records { λ r. ⌜ length (now (r .1)) ≡ undoModel (now (self .entry .page .words)) (self .entry .log) .capacity ⌝ }
+    {
+        let UndoReplica { page, log } = self;
+        let Page { words } = page;
+        (words, log.into_cells())
     }
 }
 
