@@ -23,7 +23,8 @@ impl ItemSet {
     pub fn contains(&self, item: u8) -> bool
         ensures { λ r. ⌜ r ≡ has (flagsOf (now (self .entry))) item ⌝ }
     {
-        self.flags[item as usize]
+        let at = item as usize;
+        self.flags[at]
     }
 
     // Puts the item into the set.

@@ -41,7 +41,7 @@ impl WriteList {
     pub fn len(&self) -> usize
         ensures { λ r. ⌜ r ≡ length (writes (now (self .entry))) ⌝ }
     {
-        self.len
+        self.as_slice().len()
     }
 
     // The writes, in rising order of their items.
