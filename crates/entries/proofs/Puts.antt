@@ -1,15 +1,15 @@
 -- Laws of lists of writes with one more write put in.
 use mathlib.Core.Path.{_≡_, refl, sym, ap, _∙_}
-use mathlib.Core.Bool.{Bool, true, false, cond, _||_, _&&_}
+use mathlib.Core.Bool.{Bool, true, false, cond}
 use mathlib.Core.List.{List, [], _∷_}
-use Prim.Native.Nat.{ℕ, suc, _+_, _≤_, _<_}
+use Prim.Native.Nat.{ℕ, suc, _≤_, _<_}
 use native.Mathlib.Omega.{arith}
 use native.Mathlib.Numerals.{one-add}
 use lib.Dec.{eqb, ltb}
-use lib.ListN.{length, set}
+use lib.ListN.{set}
 use Rattle.std.specs.Holes.{inserted}
 use Rattle.std.specs.declared.option.Option.the-variants.{Some}
-use Rattle.std.proofs.shelf.Tests.{cond-true, cond-false, ne-eqb, lt-ltb, eqb-true, eqb-false, ltb-true, ltb-false, and-parts, and-from, or-from, or-left, or-parts, both-ways}
+use Rattle.std.proofs.shelf.Tests.{cond-true, cond-false, ne-eqb, lt-ltb, eqb-true, eqb-false, ltb-true, ltb-false, and-parts, and-from, or-from, or-parts, both-ways}
 use Rattle.std.proofs.shelf.Ways.{tells}
 use Rattle.entries.specs.declared.writes.Write.{Write}
 use Rattle.entries.specs.Rising.{rising, risesAbove}

@@ -2,7 +2,6 @@
 use mathlib.Core.Path.{_≡_, refl, sym, _∙_, ap}
 use mathlib.Core.Bool.{Bool, true, false, cond, _&&_}
 use mathlib.Core.List.{List, [], _∷_, _++_}
-use mathlib.Core.Logic.{⊎-elim}
 use Prim.Native.Nat.{ℕ, _+_, _-_, _<_, _≤_}
 use native.Mathlib.Omega.{arith}
 use lib.Dec.{leb, ltb, eqb}
@@ -10,7 +9,7 @@ use lib.ListN.{length, getD, set, drop}
 use Rattle.std.specs.Results.{isOk}
 use Rattle.std.specs.declared.result.Result.{Result}
 use Rattle.std.specs.declared.result.Result.the-variants.{Ok, Err}
-use Rattle.std.proofs.shelf.Tests.{cond-true, cond-false, cond-both, and-parts, leb-true, leb-false, ltb-false, lt-leb, le-leb, lt-ltb, le-ltb}
+use Rattle.std.proofs.shelf.Tests.{cond-true, cond-false, leb-false, ltb-false, lt-leb, le-leb, lt-ltb, le-ltb}
 use Rattle.rings.specs.Held.{size}
 use Rattle.entries.specs.declared.writes.Write.{Write}
 use Rattle.replicas.specs.declared.replica.Refusal.{Refusal}

@@ -1,12 +1,12 @@
 -- What calls on a replica leave of its history.
 use mathlib.Core.Path.{_≡_, refl, sym, _∙_, ap}
-use mathlib.Core.Bool.{Bool, true, false, cond}
+use mathlib.Core.Bool.{true, false}
 use mathlib.Core.List.{List, [], _∷_, _++_}
 use mathlib.Core.Logic.{⊎-elim}
-use Prim.Native.Nat.{ℕ, zero, suc, _+_, _-_, _<_, _≤_}
+use Prim.Native.Nat.{ℕ, _+_, _-_, _<_}
 use native.Mathlib.Omega.{arith}
 use lib.Dec.{eqb, leb}
-use lib.ListN.{length, getD, set, take, drop}
+use lib.ListN.{length, getD, take, drop}
 use Rattle.std.specs.Options.{valueOr}
 use Rattle.std.specs.declared.option.Option.{Option}
 use Rattle.std.specs.declared.option.Option.the-variants.{Some, None}
@@ -17,7 +17,7 @@ use lib.Seq.{take-add}
 use Rattle.entries.specs.declared.writes.Write.{Write}
 use Rattle.entries.specs.Writes.{wordOf}
 use Rattle.replicas.specs.Overlay.{over, overs, oldestWord, replaced, laid}
-use Rattle.replicas.specs.Model.{ReplicaModel, versionOf, contentsAt, keeps, afterTake, afterForget, takeAnswer}
+use Rattle.replicas.specs.Model.{versionOf, contentsAt, afterTake, afterForget}
 use Rattle.replicas.specs.Laws.{OldestReplacedWord, TakeKeepsHistory, ForgetKeepsHistory, newestOf, NewestWriteCounts}
 use Rattle.replicas.proofs.Overlays.{getD-over, length-over}
 use Rattle.replicas.proofs.Undone.{over-replaced}

@@ -1,15 +1,14 @@
 -- Records whose versions never fall are those of the sets that are cut from them.
 use mathlib.Core.Path.{_≡_, refl, sym, _∙_, ap}
-use mathlib.Core.Bool.{Bool, true, false, _&&_}
+use mathlib.Core.Bool.{true, false, _&&_}
 use mathlib.Core.List.{List, [], _∷_, _++_, map}
 use Prim.Native.Nat.{ℕ, suc, zero, _+_, _-_, _<_, _≤_}
 use mathlib.Core.Logic.{⊎-elim}
 use native.Mathlib.Omega.{arith}
 use native.Mathlib.Numerals.{one-add}
-use native.Mathlib.Nat.{add-zero}
 use lib.Dec.{leb}
 use lib.ListN.{length, take, drop}
-use Rattle.std.proofs.shelf.Tests.{cond-true, cond-false, le-leb, lt-leb, leb-true, leb-false, and-parts, and-from, cases-bool}
+use Rattle.std.proofs.shelf.Tests.{cond-true, cond-false, le-leb, leb-true, leb-false, and-parts, and-from, cases-bool}
 use Rattle.std.proofs.shelf.Lists.{take-append-drop}
 use Rattle.entries.specs.declared.writes.Write.{Write}
 use Rattle.replicas.specs.declared.logs.Record.{Record}

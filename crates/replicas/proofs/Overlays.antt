@@ -1,15 +1,15 @@
 -- Contents with writes laid over them.
 use mathlib.Core.Path.{_≡_, refl, sym, _∙_, ap}
-use mathlib.Core.Bool.{Bool, true, false, cond, _&&_}
+use mathlib.Core.Bool.{Bool, true, false, cond}
 use mathlib.Core.List.{List, [], _∷_, _++_}
-use Prim.Native.Nat.{ℕ, _+_, _<_, _≤_}
+use Prim.Native.Nat.{ℕ, _+_, _<_}
 use native.Mathlib.Omega.{arith}
 use lib.Dec.{eqb}
 use lib.ListN.{length, getD, set}
 use Rattle.std.proofs.shelf.Lists.{length-set, getD-set-same, getD-set-other, set-comm, append-assoc, append-nil}
 use Rattle.std.proofs.shelf.Tests.{eqb-true, eqb-false, and-parts, or-parts}
 use Rattle.entries.specs.declared.writes.Write.{Write}
-use Rattle.entries.specs.Rising.{rising, risesAbove}
+use Rattle.entries.specs.Rising.{rising}
 use Rattle.entries.specs.Writes.{names}
 use Rattle.entries.proofs.Puts.{names-above, rising-rest}
 use Rattle.replicas.specs.Overlay.{over, overs, joined, laid, newestWord, oldestWord}

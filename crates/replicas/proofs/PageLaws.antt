@@ -1,6 +1,6 @@
 -- What the calls on a page replica answer and leave.
 use mathlib.Core.Path.{_≡_, refl, sym, _∙_, ap}
-use mathlib.Core.Bool.{Bool, true, _&&_}
+use mathlib.Core.Bool.{true, _&&_}
 use mathlib.Core.List.{List, [], _∷_, _++_, map}
 use denote.Ref.{now}
 use Prim.Native.Nat.{ℕ, zero, suc, _+_, _-_, _<_}

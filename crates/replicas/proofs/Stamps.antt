@@ -4,13 +4,11 @@ use mathlib.Core.List.{List, [], _∷_, _++_, map}
 use Prim.Native.Nat.{ℕ, suc, zero, _+_, _-_, _<_, _≤_}
 use mathlib.Core.Logic.{⊎-elim}
 use native.Mathlib.Omega.{arith}
-use native.Mathlib.Numerals.{one-add}
 use native.Mathlib.Nat.{add-zero}
 use lib.ListN.{length, getD, take, drop}
 use lib.Seq.{take-append-add, drop-append-add}
 use Rattle.std.proofs.shelf.Tests.{cond-true, cond-false, le-leb, lt-leb, cases-lt}
-use Rattle.std.proofs.shelf.Lists.{length-append, length-map, append-assoc, append-nil, map-append, take-at, drop-at, drop-drop, take-all, getD-append-left, getD-append-right}
-use Rattle.std.proofs.shelf.Ways.{tells}
+use Rattle.std.proofs.shelf.Lists.{length-append, append-assoc, append-nil, map-append, take-at, drop-at, getD-append-left, getD-append-right}
 use Rattle.entries.specs.declared.writes.Write.{Write}
 use Rattle.replicas.specs.declared.logs.Record.{Record}
 use Rattle.replicas.specs.Overlay.{sizes, joined}

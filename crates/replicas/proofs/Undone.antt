@@ -1,13 +1,13 @@
 -- Laws of the words that writes replaced: laid over the contents after the writes, they give those before.
 use mathlib.Core.Path.{_≡_, refl, sym, _∙_, ap}
-use mathlib.Core.Bool.{Bool, true, false, cond}
+use mathlib.Core.Bool.{true, false}
 use mathlib.Core.List.{List, [], _∷_, _++_}
 use mathlib.Core.Logic.{⊎-elim}
-use Prim.Native.Nat.{ℕ, zero, suc, _+_, _<_, _≤_}
+use Prim.Native.Nat.{ℕ, zero, suc, _+_, _<_}
 use native.Mathlib.Omega.{arith}
 use lib.Dec.{eqb, leb}
 use lib.ListN.{length, getD, set, take, drop}
-use Rattle.std.proofs.shelf.Lists.{ext-getD, length-set, set-set, set-getD, getD-set-same, getD-set-other}
+use Rattle.std.proofs.shelf.Lists.{ext-getD, set-set, set-getD, getD-set-same, getD-set-other}
 use Rattle.std.proofs.shelf.Tests.{eqb-true, eqb-false, leb-false, cases-bool, or-parts}
 use Rattle.entries.specs.declared.writes.Write.{Write}
 use Rattle.entries.specs.Rising.{rising}

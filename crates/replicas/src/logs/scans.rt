@@ -5,7 +5,6 @@ ghost use Prim.Native.Nat.{_+_, _≤_};
 ghost use lib.ListN.{length, getD, take, drop};
 ghost use mathlib.Core.Bool.{false};
 ghost use Rattle.rings.specs.Held.{held, size};
-ghost use Rattle.entries.specs.Lists.{writes};
 ghost use Rattle.replicas.specs.Overlay.{namesPast, newestWord, oldestWord, laid, replaced};
 ghost use Rattle.replicas.specs.Records.{noRecord, plain, marked, upto, Split};
 use super::Record;
