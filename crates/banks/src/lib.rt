@@ -1,4 +1,6 @@
 // Replicas side by side, one for each site.
+#![tactic(auto)]
+
 pub mod bank;
 pub mod laws;
 pub mod rows;

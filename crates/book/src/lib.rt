@@ -1,4 +1,6 @@
 // The book in use: layouts, the eleven calls, runs.
+#![tactic(auto)]
+
 pub mod answers;
 pub mod books;
 

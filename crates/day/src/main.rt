@@ -1,4 +1,6 @@
 // A day in three shops that share a book of counts, and then a book of job cards.
+#![tactic(auto)]
+
 mod cards;
 mod counts;
 mod report;

@@ -2,7 +2,7 @@
 use Rattle.std.specs.Prelude.{◌≡◌, ℕ, ◌<◌, pos, negsuc, ◌≤ℤ◌, nat_lt, refl}
 use Rattle.std.proofs.Common.{sym, ◌∙◌, arith, to_z, of_z}
 use mathlib.Core.HLevel.{is_prop→PathP}
-use denote.Struct.Props.{≤ℤ_prop}
+use Rattle.std.proofs.Props.{props}
 use Rattle.std.specs.Int.{w32}
 use Rattle.std.proofs.lemmas.Bool.{cond-true, cond_both, lt-ltb, ltb-true}
 use Rattle.std.proofs.lemmas.Int.{of_z-to_z, ints}
@@ -15,8 +15,8 @@ pub same_count : (a b : Count) → a.number ≡ b.number → a ≡ b
 same_count a b e =
     λ i. record {
       number = e i;
-      low = is_prop→PathP (λ j. negsuc 2147483647 ≤ℤ e j) (λ j. ≤ℤ_prop) a.low b.low i;
-      high = is_prop→PathP (λ j. e j ≤ℤ pos 2147483647) (λ j. ≤ℤ_prop) a.high b.high i;
+      low = is_prop→PathP (λ j. negsuc 2147483647 ≤ℤ e j) (λ j. hlevel props) a.low b.low i;
+      high = is_prop→PathP (λ j. e j ≤ℤ pos 2147483647) (λ j. hlevel props) a.high b.high i;
     }
 
 -- a count that has the number of a word below 4294967296 is the word's count

@@ -1,4 +1,6 @@
 // What a book's entries are made of: kinds of values with their words, write lists and item sets.
+#![tactic(auto)]
+
 pub mod examples;
 pub mod items;
 pub mod kinds;

@@ -1,4 +1,6 @@
 // The certifier's log: the write sets that were numbered, by search and by index.
+#![tactic(auto)]
+
 pub mod filing;
 pub mod index;
 pub mod laws;

@@ -1,4 +1,6 @@
 // Replicas of a book: page replicas and undo replicas over one record log.
+#![tactic(auto)]
+
 pub mod laws;
 mod logs;
 pub mod pages;

@@ -1,2 +1,4 @@
 // Ring buffers over lent memory.
+#![tactic(auto)]
+
 pub mod ring;

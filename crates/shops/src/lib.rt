@@ -1,4 +1,6 @@
 // Tests alone: concrete books in use, over variables.
+#![tactic(auto)]
+
 #[cfg(test)]
 mod days;
 #[cfg(test)]

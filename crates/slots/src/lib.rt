@@ -1,4 +1,6 @@
 // The slots of a book's sites: each runs one transaction at a time.
+#![tactic(auto)]
+
 pub mod sites;
 pub mod slots;
 pub mod tables;

@@ -1,4 +1,6 @@
 // A tour of the parts: a page replica and an undo replica side by side, and two ledgers.
+#![tactic(auto)]
+
 mod filings;
 mod sets;
 mod sites;

@@ -8,14 +8,14 @@ use Rattle.entries.proofs.items.ItemSet.union.Goals as goal
 
 pub loop-w-preserved : goal.loop-w-preserved
 loop-w-preserved c =
-    ap (λ fs. with_items fs (drop (c.loop-w.w-index + 1) c.as-slice-writes.result.now)) c.insert.ensures
-    ∙ sym (at_drop_more (with_items (flags_of c.loop-w.items)) c.as-slice-writes.result.now c.loop-w.w-index no_write (omega arith))
+    ap (λ fs. with_items fs (drop (c.loop-w.w-index + 1) c.as_slice-writes.result.now)) c.insert.ensures
+    ∙ sym (at_drop_more (with_items (flags_of c.loop-w.items)) c.as_slice-writes.result.now c.loop-w.w-index no_write (omega arith))
     ∙ c.loop-w.invariant
 
 pub returns : goal.returns
 returns c =
-    let after = sym (at_drop_all (with_items (flags_of c.loop-w.items)) c.as-slice-writes.result.now c.loop-w.w-index (omega arith))
-    ∙ c.loop-w.invariant ∙ ap (with_items (flags_of c.args.self.now)) c.as-slice-writes.ensures in
+    let after = sym (at_drop_all (with_items (flags_of c.loop-w.items)) c.as_slice-writes.result.now c.loop-w.w-index (omega arith))
+    ∙ c.loop-w.invariant ∙ ap (with_items (flags_of c.args.self.now)) c.as_slice-writes.ensures in
     record {
       after = after;
       members = λ i h. ap (λ fs. has fs i) after ∙ has-union (flags_of c.args.self.now) (writes c.args.list.now) i (omega (arith, c.args.self.now.whole));

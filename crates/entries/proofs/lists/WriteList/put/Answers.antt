@@ -8,13 +8,13 @@ use Rattle.entries.proofs.Arrays.{put-over, put-between, put-taken}
 use Rattle.entries.proofs.lists.WriteList.put.Goals as goal
 
 -- over an earlier write of the item
-pub invariant-of-self : goal.invariant-of-self
-invariant-of-self c =
+pub invariant_of-self : goal.invariant_of-self
+invariant_of-self c =
     let l = c.args.self.now in
     let s = c.in-Ok.ensures in
     let h = length-take-le l.len l.slots (omega arith) in
     let is = put-over l.len l.slots c.args.item c.args.word c.in-Ok.at s.1 l.sorted s.0 (omega (arith, s.2)) in
-    (length-set l.slots _ _ ∙ l.whole, (l.few, (ap rising is ∙ rising-put c.args.item c.args.word (writes l) l.sorted, tt)))
+    record { whole = length-set l.slots _ _ ∙ l.whole; few = l.few; sorted = ap rising is ∙ rising-put c.args.item c.args.word (writes l) l.sorted }
 
 pub returns-in-Ok : goal.returns-in-Ok
 returns-in-Ok c =
@@ -26,12 +26,12 @@ returns-in-Ok c =
     record { answer = done.0; after = done.1; found = λ _. done.2 }
 
 -- between the writes of its neighbours
-pub invariant-of-self-in-Err : goal.invariant-of-self-in-Err
-invariant-of-self-in-Err c =
+pub invariant_of-self-in-Err : goal.invariant_of-self-in-Err
+invariant_of-self-in-Err c =
     let l = c.args.self.now in
     let s = c.in-Err.ensures in
-    let is = put-between l.len l.slots c.args.item c.args.word c.in-Err.at s.1 _ s.0 c.insert-at.ensures in
-    (c.insert-at.auto.slots ∙ l.whole, (omega arith, (ap rising is ∙ rising-put c.args.item c.args.word (writes l) l.sorted, tt)))
+    let is = put-between l.len l.slots c.args.item c.args.word c.in-Err.at s.1 _ s.0 c.insert_at.ensures in
+    record { whole = c.insert_at.auto.slots ∙ l.whole; few = omega arith; sorted = ap rising is ∙ rising-put c.args.item c.args.word (writes l) l.sorted }
 
 pub returns-else-len-ge-MOST : goal.returns-else-len-ge-MOST
 returns-else-len-ge-MOST c =
@@ -39,5 +39,5 @@ returns-else-len-ge-MOST c =
     let s = c.in-Err.ensures in
     let room = lt-ltb (length (writes l)) 8 (omega (arith, length-take-le l.len l.slots (omega arith))) in
     let done = put-taken (writes l) _ c.args.item c.args.word (or_right _ _ room)
-    (put-between l.len l.slots c.args.item c.args.word c.in-Err.at s.1 _ s.0 c.insert-at.ensures) in
+    (put-between l.len l.slots c.args.item c.args.word c.in-Err.at s.1 _ s.0 c.insert_at.ensures) in
     record { answer = done.0; after = done.1; found = λ _. done.2 }
