@@ -10,6 +10,6 @@ place-self-requires g c = omega (arith, held-room c.args.self.now)
 pub returns : goal.returns
 returns g c =
     let e = held-length c.args.self.now in
-    let rest : c.saturating-sub-self.result ≡ min c.args.self.now.len (size c.args.self.now) - c.args.n = omega arith in
+    let rest : c.saturating_sub-self.result ≡ min c.args.self.now.len (size c.args.self.now) - c.args.n = omega arith in
     let d = turned-drop c.args.self.now.first c.args.self.now.cells.now c.args.self.now.len c.args.n in
     record { holds = cc; room = refl }

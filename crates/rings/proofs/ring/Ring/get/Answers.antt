@@ -10,8 +10,8 @@ returns-then-i-len g c = sym (slice_get_past (held c.args.self.now) c.args.i (om
 pub place-at-requires : goal.place-at-requires
 place-at-requires g c = omega (arith, held-room c.args.self.now)
 
-pub offset-bounds-cells-at : goal.offset-bounds-cells-at
-offset-bounds-cells-at g c = omega (arith, held_below c.args.self.now c.args.i (omega arith))
+pub offset_bounds-cells-at : goal.offset_bounds-cells-at
+offset_bounds-cells-at g c = omega (arith, held_below c.args.self.now c.args.i (omega arith))
 
 pub bounds-cells-at : goal.bounds-cells-at
 bounds-cells-at g c = omega (arith, held_below c.args.self.now c.args.i (omega arith))
