@@ -12,5 +12,5 @@ loop-low-preserved c =
     let low = c.loop-low.low in
     let high = c.loop-low.high in
     let middle : low + (high - low) / 2 < high = omega arith in
-    let past = upto-past c.args.to (held c.args.ring.now) (low + (high - low) / 2) (omega (arith, c.loop-low.invariant.2)) (rw (sym c.record-at.ensures) c.if-record-at-to.false) in
+    let past = upto-past c.args.to (held c.args.ring.now) (low + (high - low) / 2) (omega (arith, c.loop-low.invariant.2)) (rw (sym c.record_at.ensures) c.if-record_at-to.false) in
     (c.loop-low.invariant.0, past, omega (arith, c.loop-low.invariant.2))

@@ -8,14 +8,14 @@ use Rattle.replicas.proofs.logs.scans.oldest_word.Goals as goal
 
 pub returns-then-record-item : goal.returns-then-record-item
 returns-then-record-item c =
-    let is = c.record-at-record.ensures in
+    let is = c.record_at-record.ensures in
     ap (λ r. r.word) is
     ∙ sym (oldest-yes (held c.args.ring.now) c.loop-i.i (omega arith) c.args.item c.args.word (ap (λ r. r.item) (sym is) ∙ c.if-record-item.true))
     ∙ c.loop-i.invariant
 
 pub loop-i-preserved : goal.loop-i-preserved
 loop-i-preserved c =
-    let is = c.record-at-record.ensures in
+    let is = c.record_at-record.ensures in
     sym (oldest-no (held c.args.ring.now) c.loop-i.i (omega arith) c.args.item c.args.word (λ q. c.if-record-item.false (ap (λ r. r.item) is ∙ q)))
     ∙ c.loop-i.invariant
 

@@ -8,17 +8,17 @@ pub returns-then-not-keeps : goal.returns-then-not-keeps
 returns-then-not-keeps c =
     let r = forget-unkept _ _ _ (page-backs c.args.self.now) c.args.to (sym c.keeps.ensures ∙ c.if-not-keeps.true) in record { answer = r.0; after = r.1 }
 
-pub end-of-end-requires : goal.end-of-end-requires
-end-of-end-requires c = sets-split c.args.self.now.log c.args.self.now.kept c.args.to (sym c.keeps.ensures ∙ c.if-not-keeps.false)
+pub end_of-end-requires : goal.end_of-end-requires
+end_of-end-requires c = sets-split c.args.self.now.log c.args.self.now.kept c.args.to (sym c.keeps.ensures ∙ c.if-not-keeps.false)
 
 pub lay-requires : goal.lay-requires
 lay-requires c =
-    sets_end c.args.self.now.log c.args.self.now.kept c.args.to (sym c.keeps.ensures ∙ c.if-not-keeps.false) c.end-of-end.result c.end-of-end.ensures
+    sets_end c.args.self.now.log c.args.self.now.kept c.args.to (sym c.keeps.ensures ∙ c.if-not-keeps.false) c.end_of-end.result c.end_of-end.ensures
 
-pub invariant-of-self : goal.invariant-of-self
-invariant-of-self c =
-    let r = page-forgotten-kept c.args.self.now c.args.to (sym c.keeps.ensures ∙ c.if-not-keeps.false) c.end-of-end.result c.end-of-end.ensures _ _ c.lay.ensures c.forget.ensures in (r.0, (r.1, tt))
+pub invariant_of-self : goal.invariant_of-self
+invariant_of-self c =
+    let r = page-forgotten-kept c.args.self.now c.args.to (sym c.keeps.ensures ∙ c.if-not-keeps.false) c.end_of-end.result c.end_of-end.ensures _ _ c.lay.ensures c.forget.ensures in record { kept = r.0; rising = r.1 }
 
 pub returns : goal.returns
 returns c =
-    let r = page-forgotten c.args.self.now c.args.to (sym c.keeps.ensures ∙ c.if-not-keeps.false) c.end-of-end.result c.end-of-end.ensures _ _ c.lay.ensures c.forget.ensures in record { answer = r.0; after = r.1 }
+    let r = page-forgotten c.args.self.now c.args.to (sym c.keeps.ensures ∙ c.if-not-keeps.false) c.end_of-end.result c.end_of-end.ensures _ _ c.lay.ensures c.forget.ensures in record { answer = r.0; after = r.1 }

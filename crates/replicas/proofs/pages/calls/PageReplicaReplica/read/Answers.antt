@@ -10,13 +10,13 @@ returns-then-not-keeps c = read-unkept _ _ _ (page-backs c.args.self.now) c.args
 pub returns-then-item-self : goal.returns-then-item-self
 returns-then-item-self c = read_past _ _ _ (page-backs c.args.self.now) c.args.at c.args.item (sym c.keeps.ensures ∙ c.if-not-keeps.false) c.if-item-self.true
 
-pub end-of-end-requires : goal.end-of-end-requires
-end-of-end-requires c = sets-split c.args.self.now.log c.args.self.now.kept c.args.at (sym c.keeps.ensures ∙ c.if-not-keeps.false)
+pub end_of-end-requires : goal.end_of-end-requires
+end_of-end-requires c = sets-split c.args.self.now.log c.args.self.now.kept c.args.at (sym c.keeps.ensures ∙ c.if-not-keeps.false)
 
-pub newest-word-requires : goal.newest-word-requires
-newest-word-requires c =
-    sets_end c.args.self.now.log c.args.self.now.kept c.args.at (sym c.keeps.ensures ∙ c.if-not-keeps.false) c.end-of-end.result c.end-of-end.ensures
+pub newest_word-requires : goal.newest_word-requires
+newest_word-requires c =
+    sets_end c.args.self.now.log c.args.self.now.kept c.args.at (sym c.keeps.ensures ∙ c.if-not-keeps.false) c.end_of-end.result c.end_of-end.ensures
 
 pub returns : goal.returns
 returns c =
-    page-read c.args.self.now c.args.at (sym c.keeps.ensures ∙ c.if-not-keeps.false) c.end-of-end.result c.end-of-end.ensures c.args.item _ c.if-item-self.false c.newest-word.ensures
+    page-read c.args.self.now c.args.at (sym c.keeps.ensures ∙ c.if-not-keeps.false) c.end_of-end.result c.end_of-end.ensures c.args.item _ c.if-item-self.false c.newest_word.ensures
