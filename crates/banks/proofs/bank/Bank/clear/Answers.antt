@@ -5,7 +5,7 @@ use Rattle.banks.proofs.bank.Bank.clear.Goals as goal
 
 pub loop-site-preserved : goal.loop-site-preserved
 loop-site-preserved g c =
-    (c.loop-site.invariant.0, c.clear-at.ensures ∙ change-more _ _ _ _ c.loop-site.invariant.1 (omega arith))
+    (c.loop-site.invariant.0, c.clear_at.ensures ∙ change-more _ _ _ _ c.loop-site.invariant.1 (omega arith))
 
 pub returns : goal.returns
 returns g c = change-end (cleared c.args.word) (g.Self.Bank.means c.args.self.now) _ _ c.loop-site.invariant.1 (omega arith)

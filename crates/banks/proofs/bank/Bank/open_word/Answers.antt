@@ -5,12 +5,12 @@ use Rattle.banks.proofs.bank.Bank.open_word.Goals as goal
 
 pub loop-site-preserved : goal.loop-site-preserved
 loop-site-preserved g c =
-    (c.loop-site.invariant.0, c.open-word-at.ensures.after ∙ change-more _ _ _ _ c.loop-site.invariant.1 (omega arith))
+    (c.loop-site.invariant.0, c.open_word_at.ensures.after ∙ change-more _ _ _ _ c.loop-site.invariant.1 (omega arith))
 
 pub returns : goal.returns
 returns g c =
     let before = g.Self.Bank.means c.args.self.now in
-    let fresh = sym c.if-in-use.ensures in
+    let fresh = sym c.if-in_use.ensures in
     record {
       answer = all-open before c.args.item fresh (omega arith);
       after = change-end (after_open c.args.item c.args.word) before _ _ c.loop-site.invariant.1 (omega arith)
