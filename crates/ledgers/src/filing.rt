@@ -14,8 +14,8 @@ pub fn file<L: Ledger>(
     items: &ItemSet,
     list: &WriteList,
 ) -> Result<u32, LedgerRefusal>
-    ensures answer { result ≡ file_answer (means ledger.old) snapshot (flags_of items.now) (writes list.now) }
-    ensures after { means ledger.new ≡ after_file snapshot (flags_of items.now) (writes list.now) (means ledger.old) }
+    ensures answer { result ≡ file_answer (L.means ledger.old) snapshot (flags_of items.now) (writes list.now) }
+    ensures after { L.means ledger.new ≡ after_file snapshot (flags_of items.now) (writes list.now) (L.means ledger.old) }
 {
     match (*ledger).newest(snapshot, items)? {
         Some(version) => Err(LedgerRefusal::Conflict(version)),

@@ -4,7 +4,7 @@ use Rattle.ledgers.specs.Logs.{log_model}
 use Rattle.ledgers.proofs.Indexed.{tells-fresh}
 use Rattle.ledgers.proofs.index.IndexLedger.new.Goals as goal
 
-pub invariant-of-result : goal.invariant-of-result
-invariant-of-result c =
+pub invariant_of-result : goal.invariant_of-result
+invariant_of-result c =
     let k = tells-fresh (log_model c.new.result) (length c.args.entries.now) (replicate 256 0) c.new.ensures.made (λ i l. get_or-replicate 256 i 0 0 l) in
-    (c.new.ensures.kept, (refl, (k.0, (k.1, tt))))
+    record { kept = c.new.ensures.kept; whole = refl; there = k.0; latest = k.1 }

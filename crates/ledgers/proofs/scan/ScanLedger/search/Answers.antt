@@ -10,7 +10,7 @@ pub loop-w-preserved : goal.loop-w-preserved
 loop-w-preserved c =
     let m = log_model c.args.self.now.log in (
       c.loop-w.invariant.0,
-      meets-past (flags_of c.args.items.now) (fetched m c.search.version) c.as-slice-w-items.result.now (c.as-slice-w-items.ensures ∙ c.entry-entry.ensures) c.loop-w.w-index c.loop-w.invariant.1
+      meets-past (flags_of c.args.items.now) (fetched m c.search.version) c.as_slice-w-items.result.now (c.as_slice-w-items.ensures ∙ c.entry-entry.ensures) c.loop-w.w-index c.loop-w.invariant.1
           c.loop-w-test.true (sym c.if-contains.ensures),
     )
 
@@ -20,7 +20,7 @@ search-preserved c =
       omega (arith, c.search.invariant.0),
       c.loop-w.invariant.0,
       search-miss m c.args.snapshot (flags_of c.args.items.now) c.requires c.search.version c.search.invariant.0 c.search.invariant.2
-          (meets-end (flags_of c.args.items.now) (fetched m c.search.version) c.as-slice-w-items.result.now (c.as-slice-w-items.ensures ∙ c.entry-entry.ensures) c.loop-w.w-index c.loop-w.invariant.1
+          (meets-end (flags_of c.args.items.now) (fetched m c.search.version) c.as_slice-w-items.result.now (c.as_slice-w-items.ensures ∙ c.entry-entry.ensures) c.loop-w.w-index c.loop-w.invariant.1
           c.loop-w-test.false),
     )
 
@@ -33,5 +33,5 @@ pub returns-then-contains : goal.returns-then-contains
 returns-then-contains c =
     let m = log_model c.args.self.now.log in
     search-hit m c.args.snapshot (flags_of c.args.items.now) c.requires c.search.version c.search.invariant.0 c.search.invariant.2 c.search-test.true
-    (meets-here (flags_of c.args.items.now) (fetched m c.search.version) c.as-slice-w-items.result.now (c.as-slice-w-items.ensures ∙ c.entry-entry.ensures) c.loop-w.w-index c.loop-w.invariant.1
+    (meets-here (flags_of c.args.items.now) (fetched m c.search.version) c.as_slice-w-items.result.now (c.as_slice-w-items.ensures ∙ c.entry-entry.ensures) c.loop-w.w-index c.loop-w.invariant.1
     c.loop-w-test.true (sym c.if-contains.ensures))

@@ -5,7 +5,7 @@ use Rattle.ledgers.specs.Logs.{log_model}
 use Rattle.ledgers.proofs.Indexed.{tells-fresh}
 use Rattle.ledgers.proofs.index.calls.IndexLedgerLedger.clear.Goals as goal
 
-pub invariant-of-self : goal.invariant-of-self
-invariant-of-self c =
+pub invariant_of-self : goal.invariant_of-self
+invariant_of-self c =
     let k = tells-fresh (log_model c.clear.new.self) (size c.args.self.now.log.ring) (replicate 256 0) c.clear.ensures.after (λ i l. get_or-replicate 256 i 0 0 l) in
-    (c.clear.ensures.kept, (refl, (k.0, (k.1, tt))))
+    record { kept = c.clear.ensures.kept; whole = refl; there = k.0; latest = k.1 }
