@@ -1,5 +1,5 @@
 -- The version that wrote each item last.
-use Rattle.std.specs.Prelude.{◌≡◌, ℕ, ◌<◌, ◌≤◌, Bool, true, false, List, [], ◌∷◌, set, slice_index, slice_set}
+use Rattle.std.specs.Prelude.{◌≡◌, ℕ, ◌<◌, ◌≤◌, Bool, true, false, List, [], ◌∷◌, slice_index, slice_set}
 use Rattle.entries.specs.declared.writes.Write.{Write}
 use Rattle.entries.specs.Items.{has}
 use Rattle.entries.specs.Writes.{names}
