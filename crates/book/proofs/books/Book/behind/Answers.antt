@@ -2,8 +2,8 @@ use Rattle.std.proofs.Common.{arith}
 use Rattle.book.proofs.Sites.{behind-here, behind-on, behind-none}
 use Rattle.book.proofs.books.Book.behind.Goals as goal
 
-pub returns-then-version-at-to : goal.returns-then-version-at-to
-returns-then-version-at-to g c =
+pub returns-then-version_at-to : goal.returns-then-version_at-to
+returns-then-version_at-to g c =
     behind-here (g.B.Bank.means c.args.self.now.bank) c.args.to c.loop-site.site c.loop-site.invariant.1 (omega arith) (omega arith)
 
 pub loop-site-preserved : goal.loop-site-preserved

@@ -89,8 +89,8 @@ returns-in-N g c =
     let e = by_count k b c.args.call c.args.letter (outcome b c.count.result) (omega arith) c.count.ensures.is in
     record { is = e; law = call-law k b c.args.call g.met.K.Kind.faithful b c.count.result c.args.letter e }
 
-pub returns-in-default : goal.returns-in-default
-returns-in-default g c =
+pub returns-in_default : goal.returns-in_default
+returns-in_default g c =
     let k = g.K.Kind.coding in
     let b = book_of g.L.Ledger.means g.B.Bank.means c.args.self.now in
     let e = by-none k b c.args.call c.args.letter c.answer.result (omega arith) (omega arith) (omega arith) (omega arith) (omega arith) (omega arith) (omega arith) (omega arith) (omega arith) (omega arith) (omega arith) c.answer.ensures in

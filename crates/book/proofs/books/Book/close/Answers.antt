@@ -17,7 +17,7 @@ returns-then-number-version g c =
     let s = c.args.site in
     let j = c.args.slot in
     let e = gone-on k b b' 67 s j _ (closing k b s j) (close-by k b s j) c.in-Ok.number (outcome b' c.answer.result) c.in-Ok.ensures
-    (ap (outcome b') c.answer.ensures ∙ close-early k s j b' c.in-Ok.number c.version-at-version.result c.version-at-version.ensures (omega arith)) in
+    (ap (outcome b') c.answer.ensures ∙ close-early k s j b' c.in-Ok.number c.version_at-version.result c.version_at-version.ensures (omega arith)) in
     record { is = e; law = close-law k g.met.K.Kind.faithful b b' _ s j e }
 
 pub returns-else-number-version : goal.returns-else-number-version
@@ -31,7 +31,7 @@ returns-else-number-version g c =
     let h = same-sites k b s j 67 b' c.in-Ok.number c.in-Ok.ensures in
     let moved = slot-moved (g.L.Ledger.means y.ledger) (g.B.Bank.means y.bank) (table_model y.slots) y.refusals s j _ (λ _. idle) h c.end.ensures in
     let e = gone-on k b b' 67 s j _ (closing k b s j) (close-by k b s j) c.in-Ok.number (outcome _ c.answer-in-Ok.result) c.in-Ok.ensures
-    (ap (outcome _) c.answer-in-Ok.ensures ∙ close-due k s j b' _ c.in-Ok.number c.version-at-version.result c.version-at-version.ensures (omega arith) moved) in
+    (ap (outcome _) c.answer-in-Ok.ensures ∙ close-due k s j b' _ c.in-Ok.number c.version_at-version.result c.version_at-version.ensures (omega arith) moved) in
     record { is = e; law = close-law k g.met.K.Kind.faithful b _ _ s j e }
 
 pub returns-in-Err : goal.returns-in-Err

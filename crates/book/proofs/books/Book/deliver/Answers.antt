@@ -7,12 +7,12 @@ use Rattle.book.proofs.Rows.{book}
 use Rattle.book.proofs.Sites.{deliver-nowhere, deliver-none, delivered, deliver-refused}
 use Rattle.book.proofs.books.Book.deliver.Goals as goal
 
-pub returns-in-default : goal.returns-in-default
-returns-in-default g c =
+pub returns-in_default : goal.returns-in_default
+returns-in_default g c =
     let k = g.K.Kind.coding in
     let x = c.args.self.now in
     let b = book_of g.L.Ledger.means g.B.Bank.means x in
-    let e = deliver-nowhere k b.ledger b.replicas (table_model x.slots) x.refusals c.args.site _ c.in-default.ensures c.no-site.ensures in
+    let e = deliver-nowhere k b.ledger b.replicas (table_model x.slots) x.refusals c.args.site _ c.in_default.ensures c.no_site.ensures in
     record { is = e; law = deliver-law k g.met.K.Kind.faithful b b _ c.args.site e }
 
 pub returns-then-version-head : goal.returns-then-version-head
@@ -42,7 +42,7 @@ returns-in-Err g c =
     let rs' = g.B.Bank.means c.take.new.self in
     let e = deliver-refused k b.ledger b.replicas (table_model x.slots) x.refusals c.args.site _ c.in-Some.ensures
     (writes c.fetch-set.result) rs' (omega arith) c.fetch-set.ensures c.take.ensures.after
-    _ c.used-at.result c.answer-in-Err.result c.in-Err.ensures.answer c.used-at.ensures c.answer-in-Err.ensures in
+    _ c.used_at.result c.answer-in-Err.result c.in-Err.ensures.answer c.used_at.ensures c.answer-in-Err.ensures in
     record {
       is = e;
       law = deliver-law k g.met.K.Kind.faithful b (book b.ledger rs' (table_model x.slots) x.refusals) c.answer-in-Err.result c.args.site e;

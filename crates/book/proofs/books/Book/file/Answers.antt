@@ -16,7 +16,7 @@ returns-in-Ok g c =
     let s = c.args.site in
     let j = c.args.slot in
     let o = open-admitted k b s j 70 b' c.in-Ok.snapshot refl refl refl c.in-Ok.ensures in
-    let e = c.file-open.ensures ∙ filed-open k b b' s j c.in-Ok.snapshot o in
+    let e = c.file_open.ensures ∙ filed-open k b b' s j c.in-Ok.snapshot o in
     record { is = e; law = file-law k g.met.K.Kind.faithful b _ _ s j e }
 
 pub returns-in-Err : goal.returns-in-Err

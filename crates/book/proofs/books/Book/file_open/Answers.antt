@@ -49,4 +49,4 @@ returns-in-Err g c =
     let flags = flags_of c.touched-items.result in
     let l' = g.L.Ledger.means c.file.new.ledger in
     let some : 0 < length ws = (let e = c.len.ensures in let x = c.if-len-eq0.false in omega arith) in
-    filing-refused k l l' rs rows y.refusals s j n c.requires ws flags c.list-list.ensures c.touched-items.ensures c.in-Err.refusal _ some c.in-Err.ensures.answer c.file.ensures.after c.refuse-filing.ensures
+    filing-refused k l l' rs rows y.refusals s j n c.requires ws flags c.list-list.ensures c.touched-items.ensures c.in-Err.refusal _ some c.in-Err.ensures.answer c.file.ensures.after c.refuse_filing.ensures

@@ -41,8 +41,8 @@ returns-in-Some g c =
     let e = read-own k b l rs rows y.refusals s j n c.args.item h o c.items-items.result c.in-Some.word c.decode.result c.items-items.ensures.least (omega arith) c.in-Some.ensures c.decode.ensures in
     record { is = e; law = read-law k g.met.K.Kind.faithful b _ _ s j c.args.item e }
 
-pub returns-in-default : goal.returns-in-default
-returns-in-default g c =
+pub returns-in_default : goal.returns-in_default
+returns-in_default g c =
     let k = g.K.Kind.coding in
     let b = book_of g.L.Ledger.means g.B.Bank.means c.args.self.now in
     let y = c.enter.new.self in
@@ -55,7 +55,7 @@ returns-in-default g c =
     let o = open-admitted k b s j 82 (book_of g.L.Ledger.means g.B.Bank.means y) n refl refl refl c.in-Ok.ensures in
     let h = entered_here k b s j 82 l rs rows y.refusals n c.in-Ok.ensures o in
     let e = read-else k b l rs rows y.refusals s j n c.args.item h o c.items-items.result c.shown.result (table_model c.note.new.self) c.read-word.result
-    c.items-items.ensures.least (omega arith) c.in-default.ensures c.note.ensures c.read-word.ensures c.shown.ensures in
+    c.items-items.ensures.least (omega arith) c.in_default.ensures c.note.ensures c.read-word.ensures c.shown.ensures in
     record { is = e; law = read-law k g.met.K.Kind.faithful b _ _ s j c.args.item e }
 
 pub returns-in-Err : goal.returns-in-Err

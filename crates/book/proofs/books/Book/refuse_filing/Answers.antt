@@ -12,14 +12,14 @@ unfolding file_by
 returns-in-BelowFloor g c =
     let k = g.K.Kind.coding in
     let b = book_of g.L.Ledger.means g.B.Bank.means c.args.self.now in
-    refused_as k b c.args.site c.args.slot c.args.snapshot c.args.refusal (BelowFloor c.in-BelowFloor.floor) _ c.in-BelowFloor.is c.turn-away.ensures
+    refused_as k b c.args.site c.args.slot c.args.snapshot c.args.refusal (BelowFloor c.in-BelowFloor.floor) _ c.in-BelowFloor.is c.turn_away.ensures
 
 pub returns-in-Conflict : goal.returns-in-Conflict
 unfolding file_by
 returns-in-Conflict g c =
     let k = g.K.Kind.coding in
     let b = book_of g.L.Ledger.means g.B.Bank.means c.args.self.now in
-    refused_as k b c.args.site c.args.slot c.args.snapshot c.args.refusal (Conflict c.in-Conflict.version) _ c.in-Conflict.is c.turn-away-in-Conflict.ensures
+    refused_as k b c.args.site c.args.slot c.args.snapshot c.args.refusal (Conflict c.in-Conflict.version) _ c.in-Conflict.is c.turn_away-in-Conflict.ensures
 
 pub returns-in-NoWrites : goal.returns-in-NoWrites
 unfolding file_by

@@ -10,7 +10,7 @@ returns-then-site-sites g c =
     let k = g.K.Kind.coding in
     let x = c.args.self.now in
     let b = book_of g.L.Ledger.means g.B.Bank.means x in
-    let e = restart-refused k b.ledger b.replicas (table_model x.slots) x.refusals c.args.site _ (omega arith) c.no-site.ensures in
+    let e = restart-refused k b.ledger b.replicas (table_model x.slots) x.refusals c.args.site _ (omega arith) c.no_site.ensures in
     record { is = e; law = restart-law k g.met.K.Kind.faithful b b _ c.args.site e }
 
 pub returns : goal.returns

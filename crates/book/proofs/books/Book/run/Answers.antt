@@ -22,12 +22,12 @@ pub returns : goal.returns
 returns g c =
     let k = g.K.Kind.coding in
     let b = book_of g.L.Ledger.means g.B.Bank.means c.args.self.now in
-    let b' = book_of g.L.Ledger.means g.B.Bank.means c.run-all.new.self in
+    let b' = book_of g.L.Ledger.means g.B.Bank.means c.run_all.new.self in
     let calls = c.args.calls.now in
     let old = c.args.answers.now in
-    let new = c.run-all.new.answers in
-    let eb = done-book k b calls old (omega arith) b' c.run-all.ensures.after in
-    let ea = done-answers k b calls old (omega arith) new c.run-all.ensures.answers in
+    let new = c.run_all.new.answers in
+    let eb = done-book k b calls old (omega arith) b' c.run_all.ensures.after in
+    let ea = done-answers k b calls old (omega arith) new c.run_all.ensures.answers in
     record {
       answer = done-answer k b calls old (omega arith) c.answer-2.result c.answer-2.ensures;
       after = eb;

@@ -8,7 +8,7 @@ returns-in-Some g c =
     settled-there (g.L.Ledger.means b.ledger) (g.B.Bank.means b.bank) (table_model b.slots) b.refusals c.args.site _ _ _
     c.in-Some.ensures c.horizon-to.ensures c.forget.ensures.after
 
-pub returns-in-default : goal.returns-in-default
-returns-in-default g c =
+pub returns-in_default : goal.returns-in_default
+returns-in_default g c =
     let b = c.args.self.now in
-    settled-nowhere (g.L.Ledger.means b.ledger) (g.B.Bank.means b.bank) (table_model b.slots) b.refusals c.args.site c.in-default.ensures
+    settled-nowhere (g.L.Ledger.means b.ledger) (g.B.Bank.means b.bank) (table_model b.slots) b.refusals c.args.site c.in_default.ensures

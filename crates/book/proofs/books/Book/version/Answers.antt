@@ -17,5 +17,5 @@ returns-in-None g c =
     let k = g.K.Kind.coding in
     let x = c.args.self.now in
     let b = book_of g.L.Ledger.means g.B.Bank.means x in
-    let e = version-refused k b.ledger b.replicas (table_model x.slots) x.refusals c.args.site _ c.in-None.ensures c.no-site.ensures in
+    let e = version-refused k b.ledger b.replicas (table_model x.slots) x.refusals c.args.site _ c.in-None.ensures c.no_site.ensures in
     record { is = e; law = version-law k g.met.K.Kind.faithful b b _ c.args.site e }

@@ -12,7 +12,7 @@ returns-in-Ok g c =
     let b = c.args.self.now in
     let l = g.L.Ledger.means b.ledger in
     let rs = g.B.Bank.means b.bank in
-    let e = laid_in k l rs _ c.args.item _ c.args.value c.open-word.ensures.after c.encode-word.ensures in
+    let e = laid_in k l rs _ c.args.item _ c.args.value c.open_word.ensures.after c.encode-word.ensures in
     record {
       answer = lay-taken k l rs c.args.item _ c.in-Ok.ensures.answer c.answer.ensures;
       after = e;
@@ -25,9 +25,9 @@ returns-in-Err g c =
     let b = c.args.self.now in
     let l = g.L.Ledger.means b.ledger in
     let rs = g.B.Bank.means b.bank in
-    let e = laid_in k l rs _ c.args.item _ c.args.value c.open-word.ensures.after c.encode-word.ensures in
+    let e = laid_in k l rs _ c.args.item _ c.args.value c.open_word.ensures.after c.encode-word.ensures in
     record {
-      answer = lay-refused k l rs _ c.args.item _ _ _ _ c.in-Err.ensures.answer c.open-word.ensures.after c.items.ensures.least c.answer-in-Err.ensures;
+      answer = lay-refused k l rs _ c.args.item _ _ _ _ c.in-Err.ensures.answer c.open_word.ensures.after c.items.ensures.least c.answer-in-Err.ensures;
       after = e;
       laid = λ p h. subst (Laid k (opening_values k p (opening c.args.item c.args.value ∷ []))) (sym e) ((opening-law k).1 p (pair l rs) c.args.item c.args.value h);
     }

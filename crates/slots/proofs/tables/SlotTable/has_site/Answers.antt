@@ -11,6 +11,6 @@ returns c =
     let eight : length sites ≡ 8 = omega arith in
     let look = c.get.ensures.lookup in
     record {
-      is = c.is-some.ensures ∙ look.0 ∙ ap (ltb site) (sym (length-map sites row_model));
-      within = λ t. omega (arith, found_within sites site c.get.result look (subst T c.is-some.ensures t));
+      is = c.is_some.ensures ∙ look.0 ∙ ap (ltb site) (sym (length-map sites row_model));
+      within = λ t. omega (arith, found_within sites site c.get.result look (subst T c.is_some.ensures t));
     }

@@ -2,12 +2,12 @@ use Rattle.std.proofs.Common.{◌≡◌, length, arith}
 use Rattle.slots.proofs.Standing.{lost-seen, lost-has, lost-out, found-seen, found-has, found_within}
 use Rattle.slots.proofs.tables.SlotTable.slot.Goals as goal
 
-pub returns-in-err-get : goal.returns-in-err-get
-returns-in-err-get c =
+pub returns-in_err-get : goal.returns-in_err-get
+returns-in_err-get c =
     let sites = c.args.self.now.sites in
     let site = c.args.site in
     let slot = c.args.slot in
-    let look = c.in-err-get.ensures.finds in
+    let look = c.in_err-get.ensures.finds in
     let r = c.from-residual.result in
     let nothing = c.from-residual.ensures in
     record {
@@ -21,10 +21,10 @@ returns c =
     let sites = c.args.self.now.sites in
     let site = c.args.site in
     let slot = c.args.slot in
-    let row = c.in-ok-get.field-0.now in
+    let row = c.in_ok-get.field-0.now in
     let eight-sites : length sites ≡ 8 = omega arith in
     let eight-slots : length row.slots ≡ 8 = omega arith in
-    let look = c.in-ok-get.ensures.finds in
+    let look = c.in_ok-get.ensures.finds in
     let r = c.get-2.result in
     let look-in-row = c.get-2.ensures.finds in
     record {
