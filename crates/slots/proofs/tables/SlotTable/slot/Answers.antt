@@ -7,9 +7,9 @@ returns-in_err-get c =
     let sites = c.args.self.now.sites in
     let site = c.args.site in
     let slot = c.args.slot in
-    let look = c.in_err-get.ensures.finds in
-    let r = c.from-residual.result in
-    let nothing = c.from-residual.ensures in
+    let look = c.in_err-get.ensures.lookup in
+    let r = c.from_residual.result in
+    let nothing = c.from_residual.ensures in
     record {
       is = lost-seen sites site slot look.0 r nothing;
       there = lost-has sites site slot look.0 r nothing;
@@ -24,9 +24,9 @@ returns c =
     let row = c.in_ok-get.field-0.now in
     let eight-sites : length sites ≡ 8 = omega arith in
     let eight-slots : length row.slots ≡ 8 = omega arith in
-    let look = c.in_ok-get.ensures.finds in
+    let look = c.in_ok-get.ensures.lookup in
     let r = c.get-2.result in
-    let look-in-row = c.get-2.ensures.finds in
+    let look-in-row = c.get-2.ensures.lookup in
     record {
       is = found-seen sites site slot row look.3.0 look.1 r look-in-row;
       there = found-has sites site slot row look.3.0 look.1 r look-in-row;
