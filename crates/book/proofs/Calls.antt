@@ -1,13 +1,12 @@
 -- What a call's answer comes to, once it has entered.
-use Rattle.std.proofs.Common.{◌≡◌, ℕ, List, [], ◌∷◌, Ok, Err, Result, sym, refl, ap, ◌∙◌}
+use Rattle.std.proofs.Common.{◌≡◌, ℕ, Ok, Err, sym, ap, ◌∙◌}
 use Rattle.entries.specs.Codings.{Coding}
 use Rattle.law.specs.declared.calls.Answer.{Answer}
-use Rattle.law.specs.declared.codes.Code.TheVariants.{Accepted}
-use Rattle.law.specs.Books.{BookModel, settled}
-use Rattle.law.specs.Calls.{Outcome, plain, accept, refuse}
+use Rattle.law.specs.Books.{BookModel}
+use Rattle.law.specs.Calls.{Outcome, plain}
 use Rattle.book.specs.declared.answers.Refused.{Refused}
 use Rattle.book.specs.Books.{outcome}
-use Rattle.book.specs.Entering.{Entry, entry, entered, resumed}
+use Rattle.book.specs.Entering.{entry, entered, resumed}
 
 -- a book and an answer, each known by another name
 pub same_outcome : {V : Type 0} (b b' : BookModel) (r r' : Answer V) → b ≡ b' → r ≡ r' → outcome b r ≡ outcome b' r'

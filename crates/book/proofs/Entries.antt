@@ -1,20 +1,16 @@
 -- The calls of a transaction by how they come to their slot.
-use Rattle.std.proofs.Common.{◌≡◌, ℕ, ◌<◌, Bool, true, false, cond, ◌||◌, eqb, ltb, leb, List, [], ◌∷◌, length, set, Some, None, Ok, Err, Option, Result, sym, refl, ap, ◌∙◌, subst, ⊎_elim, arith}
+use Rattle.std.proofs.Common.{◌≡◌, ℕ, ◌<◌, Bool, true, false, cond, ◌||◌, eqb, ltb, leb, List, [], ◌∷◌, set, Ok, Err, Result, sym, refl, ap, ◌∙◌, subst, ⊎_elim, arith}
 use Rattle.std.proofs.lemmas.List.{set-get_or}
-use Rattle.std.proofs.lemmas.Bool.{cond_both, cond-true, cond-false, cases_Bool, ltb-true}
+use Rattle.std.proofs.lemmas.Bool.{cond-true, cond-false, cases_Bool, ltb-true}
 use Rattle.entries.specs.declared.writes.Write.{Write}
 use Rattle.entries.specs.Codings.{Coding}
-use Rattle.entries.specs.Lists.{may_put}
-use Rattle.entries.specs.Writes.{put_in}
-use Rattle.entries.specs.Items.{with_items}
-use Rattle.ledgers.specs.Filing.{file_answer, after_file}
 use Rattle.law.specs.declared.codes.Code.{Code}
-use Rattle.law.specs.declared.codes.Code.TheVariants.{NoSuchSite, NoSuchSlot, WrongState, NotDelivered, ListFull}
+use Rattle.law.specs.declared.codes.Code.TheVariants.{NoSuchSite, NoSuchSlot, WrongState, NotDelivered}
 use Rattle.law.specs.Slots.{SlotModel, slot_count}
 use Rattle.law.specs.Slots.SlotModel.{idle, opened, filed}
 use Rattle.law.specs.Books.{BookModel, site_count, site_version, row_at, slot_at, with_slot, settled}
-use Rattle.law.specs.Calls.{Outcome, refuse, accept, at_site, at_known_slot, at_known_item, begin_on, word_read, read_on, write_on, file_by, file_on, close_on, drop_on, begin_call, read_call, write_call, file_call, close_call, drop_call}
-use Rattle.slots.specs.Slots.{admit_answer, after_admit, own_word, put_answer, after_put, writes_of, touched_by, noted}
+use Rattle.law.specs.Calls.{Outcome, refuse, accept, at_site, at_known_slot, begin_on, read_on, write_on, file_on, close_on, drop_on, begin_call, read_call, write_call, file_call, close_call, drop_call}
+use Rattle.slots.specs.Slots.{admit_answer, after_admit}
 use Rattle.book.specs.declared.answers.Refused.{Refused}
 use Rattle.book.specs.Entering.{Entry, barred, admitted_by, entered, resumed}
 

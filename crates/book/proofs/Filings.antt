@@ -1,21 +1,19 @@
 -- File, once it has entered.
-use Rattle.std.proofs.Common.{◌≡◌, ℕ, ◌<◌, ◌≤◌, Bool, true, false, cond, List, [], ◌∷◌, length, is_ok, Ok, Err, Result, sym, refl, ap, ◌∙◌, subst, arith}
+use Rattle.std.proofs.Common.{◌≡◌, ℕ, ◌<◌, Bool, List, [], ◌∷◌, length, is_ok, Ok, Err, Result, sym, refl, ap, ◌∙◌, arith}
 use Rattle.std.proofs.lemmas.Bool.{cond-false}
 use Rattle.entries.specs.declared.writes.Write.{Write}
 use Rattle.entries.specs.Codings.{Coding}
 use Rattle.entries.specs.Items.{with_items}
 use Rattle.replicas.specs.Model.{ReplicaModel}
 use Rattle.ledgers.specs.declared.ledger.LedgerRefusal.{LedgerRefusal}
-use Rattle.ledgers.specs.declared.ledger.LedgerRefusal.TheVariants.{NoWrites}
-use Rattle.ledgers.specs.Model.{LedgerModel, after_add, last_version}
+use Rattle.ledgers.specs.Model.{LedgerModel}
 use Rattle.ledgers.specs.Filing.{file_answer, after_file}
 use Rattle.law.specs.declared.calls.Answer.{Answer}
-use Rattle.law.specs.declared.codes.Code.{Code}
-use Rattle.law.specs.declared.codes.Code.TheVariants.{Accepted, SnapshotTrimmed, Conflicting, NumbersUsedUp, LedgerFull}
+use Rattle.law.specs.declared.codes.Code.TheVariants.{Accepted}
 use Rattle.law.specs.Slots.{SlotModel}
-use Rattle.law.specs.Slots.SlotModel.{idle, opened, filed}
-use Rattle.law.specs.Books.{BookModel, slot_at, with_slot, settled}
-use Rattle.law.specs.Calls.{Outcome, plain, accept, refuse, turned_away, file_by, file_on, file_call}
+use Rattle.law.specs.Slots.SlotModel.{opened, filed}
+use Rattle.law.specs.Books.{BookModel, slot_at, settled}
+use Rattle.law.specs.Calls.{Outcome, plain, accept, file_by, file_on, file_call}
 use Rattle.slots.specs.Slots.{writes_of, touched_by}
 use Rattle.slots.specs.Tables.{slot_in, changed_slot}
 use Rattle.book.specs.Books.{outcome}

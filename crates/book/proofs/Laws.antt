@@ -1,11 +1,10 @@
 -- A call that equals its definition keeps the law.
-use Rattle.std.proofs.Common.{◌≡◌, ℕ, List, [], ◌∷◌, sym, refl, ap, ◌∙◌, subst₂}
+use Rattle.std.proofs.Common.{◌≡◌, ℕ, [], ◌∷◌, sym, ap, subst₂}
 use Rattle.entries.specs.Codings.{Coding, Faithful}
 use Rattle.law.specs.declared.calls.Call.{Call}
 use Rattle.law.specs.declared.calls.Answer.{Answer}
 use Rattle.law.specs.Books.{BookModel}
-use Rattle.law.specs.Calls.{Outcome, plain, step_by, step, begin_call, read_call, write_call, file_call, close_call, drop_call, deliver_call, trim_call, restart_call, version_call, count_call}
-use Rattle.law.specs.Letters.{Letter}
+use Rattle.law.specs.Calls.{Outcome, step_by, step, begin_call, read_call, write_call, file_call, close_call, drop_call, deliver_call, trim_call, restart_call, version_call, count_call}
 use Rattle.law.specs.Letters.Letter.{begins, reads, writes, files, closes, drops, delivers, trims, restarts, versions, counts}
 use Rattle.law.specs.Law.{KeepsLaw}
 use Rattle.law.proofs.Main.{step-law}

@@ -1,5 +1,5 @@
 -- Layouts in code.
-use Rattle.std.proofs.Common.{◌≡◌, ℕ, ◌≤◌, Bool, true, false, cond, List, [], ◌∷◌, map, length, take, replicate, is_ok, Ok, Err, Result, sym, refl, ap, ◌∙◌, subst}
+use Rattle.std.proofs.Common.{◌≡◌, ℕ, ◌≤◌, false, List, map, length, take, replicate, is_ok, Ok, Err, sym, ap, ◌∙◌}
 use Rattle.std.proofs.lemmas.List.{take-replicate}
 use Rattle.std.proofs.lemmas.Bool.{cond-true, cond-false}
 use Rattle.entries.specs.Codings.{Coding}
@@ -11,7 +11,6 @@ use Rattle.law.specs.declared.calls.Answer.{Answer}
 use Rattle.law.specs.declared.codes.Code.TheVariants.{Accepted, NoSuchItem}
 use Rattle.law.specs.Slots.{SlotModel}
 use Rattle.law.specs.Slots.SlotModel.{idle}
-use Rattle.law.specs.Books.{BookModel}
 use Rattle.law.specs.Calls.{plain}
 use Rattle.law.specs.Layouts.{LayoutModel, laid_out, lay_answer, after_lay, book_in_use}
 

@@ -1,7 +1,7 @@
 -- A book by its ledger, its replicas, all rows of its table, and its count: what calls on the parts make of it.
-use Rattle.std.proofs.Common.{◌≡◌, ℕ, zero, suc, ◌<◌, ◌≤◌, Bool, true, false, cond, ◌||◌, eqb, ltb, List, [], ◌∷◌, map, length, get_or, take, set, Some, None, Ok, Err, Option, Result, sym, refl, ap, ◌∙◌, ⊎_elim, arith}
+use Rattle.std.proofs.Common.{◌≡◌, ℕ, zero, suc, ◌<◌, ◌≤◌, ◌||◌, eqb, ltb, List, [], ◌∷◌, length, get_or, take, set, Some, None, Ok, Err, Option, Result, sym, refl, ap, ◌∙◌, ⊎_elim, arith}
 use Rattle.std.proofs.lemmas.List.{length-set, length-take, get_or-take, set_past}
-use Rattle.std.proofs.lemmas.Bool.{cond_both, cond-true, cond-false, cases_Bool, cases_lt, ltb-true, ltb-false, lt-ltb, or_parts}
+use Rattle.std.proofs.lemmas.Bool.{cond_both, cond-true, cond-false, cases_lt, ltb-true, ltb-false, lt-ltb, or_parts}
 use Rattle.replicas.specs.Model.{ReplicaModel, version_of, after_forget}
 use Rattle.banks.specs.Sites.{replica_at, at_site, changed_at}
 use Rattle.ledgers.specs.Model.{LedgerModel}
@@ -11,8 +11,7 @@ use Rattle.law.specs.Slots.SlotModel.{idle, opened, filed}
 use Rattle.law.specs.Books.{BookModel, site_version, row_at, slot_at, with_row, with_slot, settled}
 use Rattle.slots.specs.Slots.{admit_answer, after_admit}
 use Rattle.slots.specs.Tables.{slot_in, changed_slot}
-use Rattle.book.specs.declared.answers.Refused.{Refused}
-use Rattle.book.specs.Entering.{Entry, entry, admitted_by, entered}
+use Rattle.book.specs.Entering.{entry, admitted_by, entered}
 use Rattle.book.proofs.Entries.{put_back}
 
 -- the book of these parts

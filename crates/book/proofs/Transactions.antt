@@ -1,10 +1,9 @@
 -- Close, read and write, once they have entered.
-use Rattle.std.proofs.Common.{◌≡◌, ℕ, ◌<◌, ◌≤◌, Bool, true, false, cond, ltb, leb, List, [], ◌∷◌, length, get_or, set, Some, None, Ok, Err, Option, Result, sym, refl, ap, ◌∙◌, subst, ⊎_elim, arith}
+use Rattle.std.proofs.Common.{◌≡◌, ℕ, ◌<◌, ◌≤◌, true, false, cond, ltb, leb, List, length, set, Some, None, Ok, Err, Result, sym, ap, ◌∙◌, subst, arith}
 use Rattle.std.proofs.lemmas.Bool.{cond_both, cond-true, cond-false, le-leb, lt-leb, lt-ltb, le-ltb}
-use Rattle.entries.specs.declared.writes.Write.{Write}
 use Rattle.entries.specs.declared.lists.ListFull.{ListFull as full}
 use Rattle.entries.specs.Codings.{Coding}
-use Rattle.entries.specs.Writes.{word_of, put_in}
+use Rattle.entries.specs.Writes.{put_in}
 use Rattle.entries.specs.Lists.{may_put}
 use Rattle.replicas.specs.declared.replica.Refusal.{Refusal}
 use Rattle.replicas.specs.declared.replica.Refusal.TheVariants.{NoSuchSite}
@@ -14,8 +13,8 @@ use Rattle.ledgers.specs.Model.{LedgerModel}
 use Rattle.law.specs.declared.calls.Answer.{Answer}
 use Rattle.law.specs.declared.codes.Code.TheVariants.{Accepted, NoSuchItem, ListFull, NotDelivered}
 use Rattle.law.specs.Slots.{SlotModel}
-use Rattle.law.specs.Slots.SlotModel.{idle, opened, filed}
-use Rattle.law.specs.Books.{BookModel, site_count, item_count, replica_of, site_version, slot_at, with_slot}
+use Rattle.law.specs.Slots.SlotModel.{idle, opened}
+use Rattle.law.specs.Books.{BookModel, site_count, item_count, replica_of, site_version, with_slot}
 use Rattle.law.specs.Calls.{Outcome, plain, refuse, accept, show, shown_as, at_known_item, word_read, read_on, read_call, write_on, write_call}
 use Rattle.slots.specs.Slots.{own_word, noted, put_answer, after_put}
 use Rattle.slots.specs.Tables.{slot_in, changed_slot}

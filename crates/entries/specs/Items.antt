@@ -1,5 +1,5 @@
 -- What an item set means.
-use Rattle.std.specs.Prelude.{ℕ, Bool, true, false, List, [], ◌∷◌, set, slice_index_or, slice_set}
+use Rattle.std.specs.Prelude.{ℕ, Bool, true, false, List, [], ◌∷◌, slice_index_or, slice_set}
 use Rattle.entries.specs.declared.writes.Write.{Write}
 use Rattle.entries.specs.declared.items.ItemSet.{ItemSet}
 

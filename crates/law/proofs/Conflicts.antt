@@ -1,11 +1,10 @@
 -- The newest conflict, told over the history and over the ledger.
-use Rattle.std.proofs.Common.{◌≡◌, ℕ, ◌+◌, ◌-◌, ◌<◌, ◌≤◌, min, max, Bool, true, false, cond, ◌&&◌, ltb, List, [], ◌∷◌, ◌++◌, length, drop, is_ok, Some, None, Ok, Option, unwrap_or, sym, refl, ap, ◌∙◌, ⊎_elim, arith}
+use Rattle.std.proofs.Common.{◌≡◌, ℕ, ◌+◌, ◌-◌, ◌<◌, ◌≤◌, min, max, Bool, true, false, cond, ◌&&◌, ltb, List, [], ◌∷◌, ◌++◌, length, drop, is_ok, Some, None, Ok, Option, unwrap_or, sym, ap, ◌∙◌, ⊎_elim, arith}
 use Rattle.std.proofs.lemmas.List.{drop-drop, drop_all, drop-append-le, length-drop, length_push}
 use Rattle.std.proofs.lemmas.Bool.{cond_both, cond-true, cond-false, cases_lt, lt-ltb, le-ltb, ltb-true, and_left, and_parts}
 use Rattle.entries.specs.declared.writes.Write.{Write}
 use Rattle.entries.specs.Items.{has}
 use Rattle.ledgers.specs.Model.{LedgerModel, head_of, meets, newest_in, newest, add_answer, after_add, trimmed}
-use Rattle.ledgers.specs.Laws.{Greatest}
 use Rattle.law.specs.History.{Accepted, is_update}
 use Rattle.law.specs.Certification.{writes_one_of, update_count, conflicts, newest_conflict}
 use Rattle.law.proofs.Touching.{names_by, meets-by}

@@ -1,5 +1,5 @@
 -- What holds of the elements of a list, and of each two of them.
-use Rattle.std.proofs.Common.{◌≡◌, ℕ, zero, suc, ◌<◌, List, [], ◌∷◌, subst, le_of_suc-le-suc, arith}
+use Rattle.std.proofs.Common.{ℕ, zero, suc, ◌<◌, List, [], ◌∷◌, subst, le_of_suc-le-suc, arith}
 use Rattle.std.specs.List.{AllByRecursion as All}
 use Rattle.law.specs.Serial.{At}
 

@@ -1,5 +1,5 @@
 -- The horizon of a site.
-use Rattle.std.proofs.Common.{◌≡◌, ℕ, zero, suc, ◌<◌, ◌≤◌, min, Bool, List, [], ◌∷◌, length, get_or, set, Some, None, Option, unwrap_or, sym, refl, ap, ◌∙◌, arith}
+use Rattle.std.proofs.Common.{◌≡◌, ℕ, zero, suc, ◌≤◌, min, Bool, List, [], ◌∷◌, get_or, set, Some, None, Option, unwrap_or, sym, refl, ap, ◌∙◌, arith}
 use Rattle.entries.specs.declared.writes.Write.{Write}
 use Rattle.law.specs.Slots.{SlotModel, smallest_open_of, horizon}
 use Rattle.law.specs.Slots.SlotModel.{idle, opened, filed}

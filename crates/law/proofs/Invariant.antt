@@ -1,28 +1,26 @@
 -- What holds of a book and of the history that led to it, between any two calls.
-use Rattle.std.proofs.Common.{◌≡◌, ℕ, zero, suc, ◌+◌, ◌<◌, ◌≤◌, min, Bool, true, false, cond, leb, ◌≢◌, ◌⊎◌, List, [], ◌∷◌, map, length, get_or, set, is_ok, Some, None, Ok, Option, sym, refl, ap, ◌∙◌, subst, inl, inr, ⊎_elim, arith}
+use Rattle.std.proofs.Common.{◌≡◌, ℕ, zero, suc, ◌+◌, ◌<◌, ◌≤◌, min, Bool, true, false, cond, leb, ◌≢◌, List, [], ◌∷◌, map, length, get_or, set, is_ok, Ok, Option, sym, refl, ap, ◌∙◌, subst, inl, ⊎_elim, arith}
 use Rattle.std.specs.List.{AllByRecursion as All}
 use Rattle.std.proofs.lemmas.List.{length-set, get_or-set_same, get_or-set_other}
-use Rattle.std.proofs.lemmas.Bool.{cond_both, cond-true, cond-false, cases_eq, cases_Bool, le-leb, lt-leb}
+use Rattle.std.proofs.lemmas.Bool.{cond_both, cond-true, cond-false, cases_eq, le-leb, lt-leb}
 use Rattle.entries.specs.declared.writes.Write.{Write}
 use Rattle.entries.specs.Codings.{Coding, Faithful}
 use Rattle.entries.specs.Items.{has}
 use Rattle.replicas.specs.Overlay.{over}
-use Rattle.replicas.specs.Model.{ReplicaModel, version_of, items_of, keeps, after_forget}
+use Rattle.replicas.specs.Model.{ReplicaModel, version_of, items_of, after_forget}
 use Rattle.banks.specs.Sites.{replica_at, no_replica, least_items}
 use Rattle.ledgers.specs.Model.{LedgerModel, head_of, newest, add_answer, after_add, trimmed}
 use Rattle.ledgers.proofs.Fetches.{add-keeps-sets, trim-keeps-sets}
-use Rattle.law.specs.Slots.{SlotModel}
-use Rattle.law.specs.Slots.SlotModel.{idle, opened}
 use Rattle.law.specs.Books.{BookModel, site_count, replica_of, row_at, horizon_at, counted, settled}
 use Rattle.law.specs.History.{History, Operation, Transaction, Accepted, Reading, Filing, open_at, closed_at, version_seen, floor_seen, accepted, readings, filings, whole, is_update}
-use Rattle.law.specs.Serial.{place, placed, ordered, after, Shows, last_put}
+use Rattle.law.specs.Serial.{place, ordered, after, Shows, last_put}
 use Rattle.law.specs.Certification.{writes_one_of, update_count, newest_conflict, due}
 use Rattle.law.proofs.Overlay.{Within}
 use Rattle.law.proofs.Touching.{names_by}
 use Rattle.law.proofs.Tracking.{length-after}
 use Rattle.law.proofs.Elements.{all-each}
 use Rattle.law.proofs.Order.{Chain, chain-carry, chain-reader, chain-update}
-use Rattle.law.proofs.States.{Lays, Sound, Leads, leads-add, leads-trim, SameTo, Mirrors, mirrors-same, mirrors-forgotten, forgotten-version, forgotten-items, forgotten-low}
+use Rattle.law.proofs.States.{Sound, Leads, leads-add, leads-trim, SameTo, Mirrors, mirrors-same, mirrors-forgotten, forgotten-version, forgotten-items, forgotten-low}
 use Rattle.law.proofs.Conflicts.{newest-trimmed, conflict-reader, conflict-update, count-reader, count-update}
 use Rattle.law.proofs.Horizons.{horizon-open}
 use Rattle.law.proofs.SameSite.{SameSite, same-site-moves}

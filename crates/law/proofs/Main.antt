@@ -1,19 +1,19 @@
 -- The law, proved.
-use Rattle.std.proofs.Common.{◌≡◌, ℕ, ◌-◌, ◌<◌, ◌≤◌, true, List, [], ◌∷◌, ◌++◌, map, length, get_or, replicate, sym, refl, ap, ◌∙◌, subst, subst₂, arith}
+use Rattle.std.proofs.Common.{◌≡◌, ℕ, ◌-◌, ◌≤◌, List, [], ◌∷◌, ◌++◌, map, length, get_or, replicate, sym, refl, ap, ◌∙◌, subst, subst₂, arith}
 use Rattle.entries.specs.Codings.{Coding, Faithful}
-use Rattle.replicas.specs.Model.{version_of, items_of}
+use Rattle.replicas.specs.Model.{items_of}
 use Rattle.ledgers.specs.Model.{head_of}
 use Rattle.law.specs.declared.calls.Call.{Call}
 use Rattle.law.specs.declared.calls.Answer.{Answer}
 use Rattle.law.specs.Letters.{letter_of}
-use Rattle.law.specs.Books.{BookModel, site_count, replica_of, site_version}
+use Rattle.law.specs.Books.{BookModel, replica_of, site_version}
 use Rattle.law.specs.Calls.{step}
 use Rattle.law.specs.Layouts.{LayoutModel, OpeningValue, laid_out, after_lay, lay_all, book_in_use, opening_values}
 use Rattle.law.specs.Runs.{book_after, answers_to, calls_made}
-use Rattle.law.specs.History.{History, event, told, closed_at, version_seen, open_at, readings, accepted}
+use Rattle.law.specs.History.{History, event, told, closed_at, version_seen, open_at, readings}
 use Rattle.law.specs.Serial.{serial_order, serial_at, updates_to, after_all, Replays, last_put}
-use Rattle.law.specs.Law.{Holds, Lawful, Laid, Led, KeepsLaw, Law, OpeningLaw, StepLaw, RunLaw}
-use Rattle.law.specs.Steady.{Steady, StaysSteady}
+use Rattle.law.specs.Law.{Holds, Lawful, Led, KeepsLaw, Law, OpeningLaw, StepLaw, RunLaw}
+use Rattle.law.specs.Steady.{StaysSteady}
 use Rattle.law.proofs.Elements.{all-each}
 use Rattle.law.proofs.Order.{chain-replays, chain-serial}
 use Rattle.law.proofs.SameSite.{same-site-order}

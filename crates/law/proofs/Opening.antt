@@ -1,15 +1,15 @@
 -- A book as it comes from a layout.
-use Rattle.std.proofs.Common.{◌≡◌, ℕ, zero, suc, ◌+◌, ◌-◌, ◌<◌, ◌≤◌, min, Bool, true, false, cond, ltb, leb, ◌⊎◌, List, [], ◌∷◌, ◌++◌, map, length, get_or, take, drop, set, replicate, is_ok, None, Ok, sym, refl, ap, ◌∙◌, subst, ⊎_elim, arith}
+use Rattle.std.proofs.Common.{◌≡◌, ℕ, zero, suc, ◌+◌, ◌-◌, ◌<◌, ◌≤◌, min, Bool, false, ltb, leb, List, [], ◌∷◌, ◌++◌, map, length, get_or, take, drop, set, replicate, is_ok, None, Ok, sym, refl, ap, ◌∙◌, subst, ⊎_elim, arith}
 use Rattle.std.specs.List.{AllByRecursion as All}
 use Rattle.std.proofs.ByRecursion.{All-get_or, All-map}
 use Rattle.std.proofs.lemmas.List.{length-set, length-map, length-replicate, replicate-append-replicate, get_or-replicate, get_or_past, set-append_left, set_past, map-set}
 use Rattle.std.proofs.lemmas.Bool.{cond_both, cond-true, cond-false, cases_lt, le-leb, lt-leb, le-ltb, both_ways, or_from}
 use Rattle.entries.specs.Codings.{Coding, Faithful}
 use Rattle.replicas.specs.Overlay.{overs}
-use Rattle.replicas.specs.Model.{ReplicaModel, version_of, items_of, contents_at, cleared, open_answer, after_open}
+use Rattle.replicas.specs.Model.{ReplicaModel, version_of, items_of, cleared, open_answer, after_open}
 use Rattle.banks.specs.Sites.{replica_at, no_replica, least_items, open_all_answer, is_in_use as replicas_in_use}
 use Rattle.ledgers.specs.Model.{LedgerModel, newest_in}
-use Rattle.law.specs.Slots.{SlotModel, slot_count, smallest_open_of, horizon}
+use Rattle.law.specs.Slots.{slot_count, smallest_open_of, horizon}
 use Rattle.law.specs.Slots.SlotModel.{idle}
 use Rattle.law.specs.Layouts.{LayoutModel, OpeningValue, laid_out, after_lay, lay_all, book_in_use, opening_values, blanks}
 use Rattle.law.proofs.Elements.{all-each}

@@ -1,9 +1,9 @@
 -- The order of transactions at one site.
-use Rattle.std.proofs.Common.{◌≡◌, ℕ, suc, ◌+◌, ◌<◌, ◌≤◌, Bool, true, false, cond, ◌&&◌, eqb, ◌≢◌, ◌⊎◌, List, [], ◌∷◌, Some, None, Option, sym, refl, ap, ◌∙◌, subst, subst₂, inl, inr, ⊎_elim, arith}
+use Rattle.std.proofs.Common.{◌≡◌, ℕ, suc, ◌+◌, ◌<◌, ◌≤◌, Bool, true, false, cond, ◌&&◌, eqb, ◌≢◌, ◌⊎◌, List, Some, None, Option, sym, refl, ap, ◌∙◌, subst, subst₂, inl, inr, ⊎_elim, arith}
 use Rattle.std.specs.List.{AllByRecursion as All}
-use Rattle.std.proofs.lemmas.Bool.{cond_both, cond-true, cond-false, cases_Bool, cases_order, eqb-true, and_parts}
+use Rattle.std.proofs.lemmas.Bool.{cond_both, cond-true, cond-false, cases_order, eqb-true, and_parts}
 use Rattle.law.specs.History.{Transaction, Accepted, is_update}
-use Rattle.law.specs.Serial.{place, stands_before, placed, At}
+use Rattle.law.specs.Serial.{place, placed, At}
 use Rattle.law.proofs.Elements.{all-each, Pairs, pairs-at, pairs-each}
 use Rattle.law.proofs.Order.{Rising, all_placed, pairs-placed, update-before, other-before}
 

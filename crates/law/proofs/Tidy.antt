@@ -1,26 +1,24 @@
 -- What else holds between any two calls: each base is its site's horizon, and the ledger has what the sites need.
-use Rattle.std.proofs.Common.{◌≡◌, ℕ, ◌+◌, ◌<◌, ◌≤◌, Bool, true, false, cond, ◌||◌, eqb, ltb, leb, ◌≢◌, ◌⊎◌, List, [], ◌∷◌, length, get_or, set, is_ok, Some, None, Ok, Err, Option, sym, refl, ap, ◌∙◌, subst, inl, inr, ⊎_elim, arith}
+use Rattle.std.proofs.Common.{◌≡◌, ℕ, ◌+◌, ◌<◌, ◌≤◌, true, false, eqb, ltb, leb, ◌≢◌, List, [], ◌∷◌, length, get_or, set, is_ok, Some, None, Ok, sym, refl, ap, ◌∙◌, subst, ⊎_elim, arith}
 use Rattle.std.specs.List.{AllByRecursion as All}
 use Rattle.std.proofs.lemmas.List.{length-set, get_or-set_same, get_or-set_other}
 use Rattle.std.proofs.ByRecursion.{All-get_or}
-use Rattle.std.proofs.lemmas.Bool.{cond_both, cond-true, cond-false, cases_eq, cases_lt, cases_Bool, le-leb, lt-leb, leb-true, leb-false, lt-ltb, le-ltb, ltb-false, eqb-true, ne_eqb, and_from, or_from}
+use Rattle.std.proofs.lemmas.Bool.{cond_both, cond-true, cond-false, cases_eq, cases_lt, le-leb, lt-leb, lt-ltb, le-ltb, ltb-false, ne_eqb, and_from, or_from}
 use Rattle.entries.specs.declared.writes.Write.{Write}
 use Rattle.entries.specs.Codings.{Coding, Faithful}
 use Rattle.replicas.specs.Overlay.{names_beyond}
 use Rattle.replicas.specs.Model.{ReplicaModel, version_of, used_of, items_of, keeps, admission, after_forget, last_version}
-use Rattle.banks.specs.Sites.{replica_at, no_replica}
+use Rattle.banks.specs.Sites.{no_replica}
 use Rattle.ledgers.specs.Model.{LedgerModel, head_of, add_answer, after_add, fetched, trimmed}
 use Rattle.ledgers.proofs.Fetches.{add-keeps-sets, trim-keeps-sets}
 use Rattle.law.specs.Slots.{SlotModel, horizon}
-use Rattle.law.specs.Slots.SlotModel.{idle}
 use Rattle.law.specs.Books.{BookModel, site_count, replica_of, site_version, row_at, slot_at, horizon_at, with_ledger, with_replica, with_row, with_slot, counted, settled}
 use Rattle.law.specs.Calls.{behind}
-use Rattle.law.specs.History.{Transaction}
 use Rattle.law.specs.Steady.{Steady}
 use Rattle.law.proofs.Overlay.{Within}
 use Rattle.law.proofs.States.{forgotten-version, forgotten-base}
 use Rattle.law.proofs.Horizons.{held, Between, horizon-between, horizon-set}
-use Rattle.law.proofs.OpenSlots.{OpenSlots, open-between}
+use Rattle.law.proofs.OpenSlots.{open-between}
 use Rattle.law.proofs.Invariant.{View, Inv, least_at, sites-set}
 
 -- the ledger gives no number past the last, and none of its sets is empty

@@ -1,5 +1,5 @@
 -- Operations run on a serial book, and what an open slot knows of them.
-use Rattle.std.proofs.Common.{◌≡◌, ℕ, ◌<◌, ◌≤◌, Bool, true, false, cond, ◌||◌, eqb, ltb, List, [], ◌∷◌, ◌++◌, map, length, get_or, set, replicate, Some, None, Option, unwrap_or, sym, refl, ap, ◌∙◌, arith}
+use Rattle.std.proofs.Common.{◌≡◌, ℕ, ◌<◌, ◌≤◌, Bool, true, false, cond, ◌||◌, eqb, ltb, List, [], ◌∷◌, ◌++◌, map, length, get_or, set, replicate, Some, None, unwrap_or, sym, refl, ap, ◌∙◌, arith}
 use Rattle.std.proofs.lemmas.List.{length-set, length-map, get_or-set_same, get_or-set_other, map-set, get_or-map}
 use Rattle.std.proofs.lemmas.Bool.{eqb-true, eqb-false, cond_both}
 use Rattle.entries.specs.declared.writes.Write.{Write}
@@ -13,7 +13,7 @@ use Rattle.law.specs.History.Operation.{shown, put}
 use Rattle.law.specs.Serial.{after, Shows, last_put}
 use Rattle.law.specs.Certification.{touches, writes_one_of}
 use Rattle.law.proofs.Overlay.{Within, over-put}
-use Rattle.law.proofs.Touching.{or-false, names_by, names-put, has-none, has-set, has_more, writes_more, touching-own, touching-read, touching-put}
+use Rattle.law.proofs.Touching.{or-false, names_by, names-put, has-none, has_more, writes_more, touching-own, touching-read, touching-put}
 
 module _ {V : Type 0} where
   pub after_more : (p : List V) (xs ys : List (Operation V)) → after p (xs ++ ys) ≡ after (after p xs) ys

@@ -6,7 +6,7 @@ use Rattle.banks.specs.Sites.{least_items, open_all_answer, after_open_all}
 use Rattle.ledgers.specs.Model.{LedgerModel, cleared as emptied}
 use Rattle.law.specs.declared.calls.Answer.{Answer}
 use Rattle.law.specs.declared.codes.Code.TheVariants.{NoSuchItem, Accepted}
-use Rattle.law.specs.Slots.{SlotModel, slot_count}
+use Rattle.law.specs.Slots.{slot_count}
 use Rattle.law.specs.Slots.SlotModel.{idle}
 use Rattle.law.specs.Books.{BookModel}
 use Rattle.law.specs.Calls.{plain}

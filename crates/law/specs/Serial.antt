@@ -1,6 +1,6 @@
 -- The serial book: one list of values, on which accepted transactions run one after another.
-use Rattle.std.specs.Prelude.{◌≡◌, ℕ, zero, suc, Bool, true, false, cond, ◌&&◌, ◌||◌, List, [], ◌∷◌, ◌==◌, nat_le, nat_lt, slice_index_or, slice_set}
-use Rattle.law.specs.History.{Operation, Transaction, Accepted, History, accepted, is_update}
+use Rattle.std.specs.Prelude.{◌≡◌, ℕ, zero, suc, Bool, cond, ◌&&◌, List, [], ◌∷◌, ◌==◌, nat_le, nat_lt, slice_index_or, slice_set}
+use Rattle.law.specs.History.{Operation, Accepted, History, accepted, is_update}
 use Rattle.law.specs.History.Operation.{shown, put}
 
 module _ {V : Type 0} where

@@ -1,5 +1,5 @@
 -- What a replica means, and what each call on it answers and leaves.
-use Rattle.std.specs.Prelude.{ℕ, ◌+◌, ◌-◌, Bool, cond, ◌&&◌, List, [], ◌∷◌, ◌++◌, length, take, drop, set, replicate, is_ok, Ok, Err, Result, ◌==◌, nat_le, nat_lt, slice_index, slice_set}
+use Rattle.std.specs.Prelude.{ℕ, ◌+◌, ◌-◌, Bool, cond, ◌&&◌, List, [], ◌∷◌, ◌++◌, length, take, drop, replicate, is_ok, Ok, Err, Result, ◌==◌, nat_le, nat_lt, slice_index, slice_set}
 use Rattle.entries.specs.declared.writes.Write.{Write}
 use Rattle.replicas.specs.declared.replica.Refusal.{Refusal}
 use Rattle.replicas.specs.declared.replica.Refusal.TheVariants.{InUse, NotKept, NoSuchItem, NoWrites, NoRoom, LastVersion}

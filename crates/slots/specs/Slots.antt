@@ -1,5 +1,5 @@
 -- What a slot means, and what each call on it answers and leaves.
-use Rattle.std.specs.Prelude.{ℕ, min, Bool, true, false, cond, ◌||◌, List, [], ◌∷◌, length, replicate, Some, None, Ok, Err, Option, Result, ◌==◌, slice_set}
+use Rattle.std.specs.Prelude.{ℕ, min, Bool, true, false, cond, ◌||◌, List, [], length, replicate, Some, None, Ok, Err, Option, Result, ◌==◌, slice_set}
 use Rattle.entries.specs.declared.writes.Write.{Write}
 use Rattle.entries.specs.declared.lists.ListFull.{ListFull}
 use Rattle.entries.specs.Writes.{word_of, put_in}

@@ -1,15 +1,14 @@
 -- Begin keeps the invariant.
-use Rattle.std.proofs.Common.{◌≡◌, ℕ, ◌<◌, Bool, true, false, not, ◌&&◌, List, [], ◌∷◌, length, replicate, is_some, Some, None, Option, sym, refl, ap, ◌∙◌, subst, inl, inr, arith}
+use Rattle.std.proofs.Common.{◌≡◌, ℕ, ◌<◌, false, not, ◌&&◌, List, [], length, replicate, is_some, Some, None, Option, sym, refl, ap, ◌∙◌, inr, arith}
 use Rattle.entries.specs.Codings.{Coding, Faithful}
 use Rattle.law.specs.declared.calls.Call.{Call}
-use Rattle.law.specs.declared.calls.Answer.{Answer}
 use Rattle.law.specs.declared.codes.Code.TheVariants.{Accepted}
 use Rattle.law.specs.Letters.Letter.{begins}
 use Rattle.law.specs.Slots.{SlotModel, slot_count}
 use Rattle.law.specs.Slots.SlotModel.{idle, opened, filed}
 use Rattle.law.specs.Books.{BookModel, site_count, site_version, slot_at}
 use Rattle.law.specs.Calls.{plain, begin_on, begin_call}
-use Rattle.law.specs.History.{History, Event, Transaction, event, begun, open_at, readings, filings, whole}
+use Rattle.law.specs.History.{History, Transaction, event, begun, open_at, readings, filings, whole}
 use Rattle.law.proofs.Tracking.{tracks-none}
 use Rattle.law.proofs.Horizons.{held}
 use Rattle.law.proofs.OpenSlots.{Matches}

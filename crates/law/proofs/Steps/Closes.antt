@@ -1,5 +1,5 @@
 -- Close keeps the invariant.
-use Rattle.std.proofs.Common.{◌≡◌, ℕ, ◌<◌, ◌≤◌, Bool, true, false, ◌&&◌, ◌||◌, eqb, leb, ◌⊎◌, List, [], ◌∷◌, length, Some, None, Option, sym, refl, ap, ◌∙◌, subst, inl, inr, ⊎_elim, arith}
+use Rattle.std.proofs.Common.{◌≡◌, ℕ, ◌<◌, true, ◌&&◌, ◌||◌, eqb, leb, ◌⊎◌, List, length, Some, None, Option, sym, refl, ap, subst, inl, inr, ⊎_elim, arith}
 use Rattle.std.proofs.lemmas.Bool.{cond_both, leb-true, eqb-true, and_parts, or_cases}
 use Rattle.entries.specs.Codings.{Coding, Faithful}
 use Rattle.ledgers.specs.Model.{head_of}
@@ -10,7 +10,7 @@ use Rattle.law.specs.Slots.{SlotModel, slot_count}
 use Rattle.law.specs.Slots.SlotModel.{idle, opened, filed}
 use Rattle.law.specs.Books.{BookModel, site_count, site_version, slot_at}
 use Rattle.law.specs.Calls.{plain, close_on, close_call}
-use Rattle.law.specs.History.{History, Event, Transaction, event, closing, at, open_at, closed_at, version_seen, accepted}
+use Rattle.law.specs.History.{History, Transaction, event, closing, at, open_at, closed_at, version_seen, accepted}
 use Rattle.law.specs.History.{Accepted as AcceptedTransaction}
 use Rattle.law.specs.Serial.{ordered}
 use Rattle.law.proofs.Horizons.{held}

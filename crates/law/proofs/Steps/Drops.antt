@@ -1,11 +1,11 @@
 -- Drop keeps the invariant.
-use Rattle.std.proofs.Common.{◌≡◌, ℕ, ◌<◌, Bool, ◌&&◌, List, [], ◌∷◌, is_some, Some, None, Option, sym, refl, subst}
+use Rattle.std.proofs.Common.{◌≡◌, ◌<◌, ◌&&◌, List, is_some, Some, None, Option, sym, refl, subst}
 use Rattle.entries.specs.Codings.{Coding, Faithful}
 use Rattle.law.specs.declared.calls.Call.{Call}
 use Rattle.law.specs.Letters.Letter.{drops}
 use Rattle.law.specs.Slots.{SlotModel, slot_count}
 use Rattle.law.specs.Slots.SlotModel.{idle, opened, filed}
-use Rattle.law.specs.Books.{BookModel, site_count, slot_at, with_slot, settled}
+use Rattle.law.specs.Books.{BookModel, site_count, with_slot, settled}
 use Rattle.law.specs.Calls.{drop_on, drop_call}
 use Rattle.law.specs.History.{History, Transaction, open_at, readings, filings, whole}
 use Rattle.law.proofs.OpenSlots.{Matches}

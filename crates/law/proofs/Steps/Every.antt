@@ -1,12 +1,12 @@
 -- Every call keeps the invariant.
-use Rattle.std.proofs.Common.{ℕ, List, ◌∷◌}
+use Rattle.std.proofs.Common.{List}
 use Rattle.entries.specs.Codings.{Coding, Faithful}
 use Rattle.law.specs.declared.calls.Call.{Call}
 use Rattle.law.specs.Letters.{Letter, letter_of}
 use Rattle.law.specs.Letters.Letter.{begins, reads, writes, files, closes, drops, delivers, trims, restarts, versions, counts, unknown}
 use Rattle.law.specs.Books.{BookModel}
 use Rattle.law.specs.Calls.{version_call, count_call, step_by, step}
-use Rattle.law.specs.History.{History, event}
+use Rattle.law.specs.History.{History}
 use Rattle.law.proofs.Invariant.{view}
 use Rattle.law.proofs.Steps.{at-site, Good, Kept, still}
 use Rattle.law.proofs.Steps.Begins.{kept-begins}

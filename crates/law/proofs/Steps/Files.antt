@@ -1,5 +1,5 @@
 -- File keeps the invariant.
-use Rattle.std.proofs.Common.{◌≡◌, ℕ, suc, ◌+◌, ◌-◌, ◌<◌, ◌≤◌, Bool, true, false, cond, ◌&&◌, ◌||◌, eqb, ltb, List, [], ◌∷◌, map, length, get_or, set, is_some, is_ok, Some, None, Ok, Err, Option, Result, sym, refl, ap, ◌∙◌, subst, inl, inr, arith}
+use Rattle.std.proofs.Common.{◌≡◌, ℕ, suc, ◌+◌, ◌-◌, ◌<◌, ◌≤◌, Bool, true, false, cond, ◌&&◌, eqb, List, [], ◌∷◌, map, length, get_or, set, is_some, is_ok, Some, None, Ok, Err, Option, Result, sym, refl, ap, ◌∙◌, subst, arith}
 use mathlib.Core.Path.{fun_ext}
 use Rattle.std.specs.List.{AllByRecursion as All}
 use Rattle.std.proofs.lemmas.Bool.{cond-true, cond-false, lt-ltb, le-ltb, or_left}
@@ -19,22 +19,21 @@ use Rattle.law.specs.declared.codes.Code.TheVariants.{Accepted, NoSuchSite, NoSu
 use Rattle.law.specs.Letters.Letter.{files}
 use Rattle.law.specs.Slots.{SlotModel, slot_count}
 use Rattle.law.specs.Slots.SlotModel.{idle, opened, filed}
-use Rattle.law.specs.Books.{BookModel, site_count, site_version, row_at, slot_at, with_ledger, with_slot, settled, counted}
+use Rattle.law.specs.Books.{BookModel, site_count, row_at, with_ledger, with_slot, settled, counted}
 use Rattle.law.specs.Calls.{plain, file_by, file_on, file_call}
-use Rattle.law.specs.History.{History, Transaction, Filing, event, noted, accepting, filing, is_update, open_at, closed_at, version_seen, floor_seen, accepted, readings, filings, whole}
+use Rattle.law.specs.History.{History, Transaction, event, noted, accepting, filing, is_update, open_at, closed_at, version_seen, floor_seen, accepted, readings, filings, whole}
 use Rattle.law.specs.History.{Accepted as AcceptedTransaction}
 use Rattle.law.specs.Serial.{place, ordered, after, Shows}
-use Rattle.law.specs.Certification.{touches, has_writes, update_count, newest_conflict, verdict, due_by, due}
+use Rattle.law.specs.Certification.{touches, update_count, newest_conflict, verdict, due_by, due}
 use Rattle.law.proofs.Elements.{all-each}
-use Rattle.law.proofs.Overlay.{Within}
 use Rattle.law.proofs.Touching.{names_by, has-with}
 use Rattle.law.proofs.Tracking.{Agrees, same-by-words}
 use Rattle.law.proofs.Order.{chain-below, chain-rising}
 use Rattle.law.proofs.States.{certified}
 use Rattle.law.proofs.SameSite.{SameSite, Earlier, from-slot, from-none, same-site-moves, same-site-reader, same-site-update}
 use Rattle.law.proofs.OpenSlots.{Matches, slots-states}
-use Rattle.law.proofs.Invariant.{View, view, ticked, Inv, Answered, least-256, inv-ticked, inv-settled, inv-counted, serial-reader, next, next-same, add-head, states-add, serial-update, answered-add, heard-add}
-use Rattle.law.proofs.Tidy.{Tidy, tidy-settled, tidy-counted, loose-row, loose-add}
+use Rattle.law.proofs.Invariant.{View, view, Inv, Answered, least-256, inv-ticked, inv-settled, inv-counted, serial-reader, next, next-same, add-head, states-add, serial-update, answered-add, heard-add}
+use Rattle.law.proofs.Tidy.{tidy-settled, tidy-counted, loose-row, loose-add}
 use Rattle.law.proofs.Verdicts.{verdict_of, due-told, filed-free, free-sets, added-early, never-empty}
 use Rattle.law.proofs.Steps.{at_slot, Good, Kept, still, OpenHere, here-matches, slot_view, moved-slots, inv-ended, ended-tidy}
 

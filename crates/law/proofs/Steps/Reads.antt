@@ -1,18 +1,18 @@
 -- Read keeps the invariant.
-use Rattle.std.proofs.Common.{◌≡◌, ℕ, ◌<◌, ◌≤◌, Bool, true, false, ◌&&◌, leb, List, [], ◌∷◌, ◌++◌, map, length, get_or, set, is_some, Some, None, Option, sym, refl, ap, ◌∙◌, subst, inl, inr, arith}
+use Rattle.std.proofs.Common.{◌≡◌, ℕ, ◌<◌, ◌≤◌, Bool, true, ◌&&◌, leb, List, [], ◌∷◌, ◌++◌, map, length, get_or, set, is_some, Some, None, Option, sym, refl, ap, ◌∙◌, subst, inl, arith}
 use Rattle.std.proofs.lemmas.List.{length-map, get_or-map, get_or_append_left}
 use Rattle.std.proofs.lemmas.Bool.{cond-true, cond-false, and_from, le-leb, lt-leb}
 use Rattle.entries.specs.declared.writes.Write.{Write}
 use Rattle.entries.specs.Codings.{Coding, Faithful}
 use Rattle.entries.specs.Writes.{word_of}
-use Rattle.replicas.specs.Model.{ReplicaModel, version_of, items_of, contents_at, keeps, read_answer}
+use Rattle.replicas.specs.Model.{ReplicaModel, version_of, items_of, keeps, read_answer}
 use Rattle.law.specs.declared.calls.Call.{Call}
 use Rattle.law.specs.declared.calls.Answer.{Answer}
 use Rattle.law.specs.declared.codes.Code.TheVariants.{Accepted}
 use Rattle.law.specs.Letters.Letter.{reads}
 use Rattle.law.specs.Slots.{SlotModel, slot_count}
 use Rattle.law.specs.Slots.SlotModel.{idle, opened, filed}
-use Rattle.law.specs.Books.{BookModel, site_count, item_count, replica_of, site_version, slot_at, with_slot}
+use Rattle.law.specs.Books.{BookModel, site_count, replica_of, site_version, slot_at, with_slot}
 use Rattle.law.specs.Calls.{shown_as, word_read, read_on, read_call}
 use Rattle.law.specs.History.{History, Transaction, event, grown, grow, noted, reading, open_at, readings, filings, whole}
 use Rattle.law.specs.History.Operation.{shown}

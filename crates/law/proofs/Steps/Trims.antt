@@ -1,8 +1,8 @@
 -- Trim keeps the invariant.
-use Rattle.std.proofs.Common.{◌≡◌, ℕ, suc, ◌≤◌, ltb, List, [], ◌∷◌, length, Some, None, Option, sym, refl, subst, inl}
+use Rattle.std.proofs.Common.{◌≡◌, ℕ, suc, ◌≤◌, ltb, List, length, Some, None, Option, sym, refl, subst, inl}
 use Rattle.std.proofs.lemmas.Bool.{cond_both, ltb-false}
 use Rattle.entries.specs.Codings.{Coding, Faithful}
-use Rattle.ledgers.specs.Model.{LedgerModel, head_of, trimmed}
+use Rattle.ledgers.specs.Model.{LedgerModel, head_of}
 use Rattle.ledgers.proofs.Fetches.{trim-keeps-sets}
 use Rattle.law.specs.declared.calls.Call.{Call}
 use Rattle.law.specs.Letters.Letter.{trims}

@@ -1,5 +1,5 @@
 -- Write keeps the invariant.
-use Rattle.std.proofs.Common.{◌≡◌, ℕ, ◌<◌, ◌≤◌, Bool, true, false, ◌&&◌, List, [], ◌∷◌, length, is_some, Some, None, Option, sym, refl, ap, ◌∙◌, subst, inl, inr, arith}
+use Rattle.std.proofs.Common.{◌≡◌, ◌<◌, ◌≤◌, ◌&&◌, List, length, is_some, Some, None, Option, sym, refl, ap, subst, inl}
 use Rattle.std.proofs.lemmas.Bool.{cond_both}
 use Rattle.entries.specs.declared.writes.Write.{Write}
 use Rattle.entries.specs.Codings.{Coding, Faithful}

@@ -1,8 +1,8 @@
-use Rattle.std.proofs.Common.{◌≡◌, refl, ◌∙◌}
+use Rattle.std.proofs.Common.{refl, ◌∙◌}
 use Rattle.law.specs.Books.{slot_at}
 use Rattle.law.specs.Calls.{file_on}
 use Rattle.book.specs.Books.{book_of}
-use Rattle.book.proofs.Entries.{open-admitted, file-by, same-sites}
+use Rattle.book.proofs.Entries.{open-admitted, file-by}
 use Rattle.book.proofs.Laws.{file-law}
 use Rattle.book.proofs.Calls.{refused}
 use Rattle.book.proofs.Filings.{filed-open}

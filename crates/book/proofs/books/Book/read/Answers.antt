@@ -1,9 +1,9 @@
-use Rattle.std.proofs.Common.{◌≡◌, refl, arith}
+use Rattle.std.proofs.Common.{refl, arith}
 use Rattle.law.specs.Books.{slot_at}
 use Rattle.law.specs.Calls.{read_on}
 use Rattle.slots.specs.Tables.{table_model}
 use Rattle.book.specs.Books.{book_of}
-use Rattle.book.proofs.Entries.{open-admitted, entered-site, read_by}
+use Rattle.book.proofs.Entries.{open-admitted, read_by}
 use Rattle.book.proofs.Laws.{read-law}
 use Rattle.book.proofs.Calls.{refused}
 use Rattle.book.proofs.Transactions.{entered_here, read_past, read-own, read-else}

@@ -1,9 +1,9 @@
-use Rattle.std.proofs.Common.{◌≡◌, refl, arith}
+use Rattle.std.proofs.Common.{refl, arith}
 use Rattle.law.specs.Books.{slot_at}
 use Rattle.law.specs.Calls.{write_on}
 use Rattle.slots.specs.Tables.{table_model}
 use Rattle.book.specs.Books.{book_of}
-use Rattle.book.proofs.Entries.{open-admitted, entered-site, write-by}
+use Rattle.book.proofs.Entries.{open-admitted, write-by}
 use Rattle.book.proofs.Laws.{write-law}
 use Rattle.book.proofs.Calls.{refused}
 use Rattle.book.proofs.Transactions.{entered_here, write-past, write-put, write-full}

@@ -1,5 +1,5 @@
-use Rattle.std.proofs.Common.{◌≡◌, List, [], ◌∷◌, sym, subst}
-use Rattle.law.specs.Layouts.{opening_values, after_lay}
+use Rattle.std.proofs.Common.{[], ◌∷◌, sym, subst}
+use Rattle.law.specs.Layouts.{opening_values}
 use Rattle.law.specs.Law.{Laid}
 use Rattle.law.proofs.Main.{opening-law}
 use Rattle.book.specs.Books.{opening}

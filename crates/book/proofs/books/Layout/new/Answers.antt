@@ -1,8 +1,8 @@
-use Rattle.std.proofs.Common.{◌≡◌, sym, subst}
-use Rattle.law.specs.Layouts.{laid_out, blanks}
+use Rattle.std.proofs.Common.{sym, subst}
+use Rattle.law.specs.Layouts.{blanks}
 use Rattle.law.specs.Law.{Laid}
 use Rattle.law.proofs.Main.{opening-law}
-use Rattle.book.proofs.Layouts.{pair, made-new}
+use Rattle.book.proofs.Layouts.{made-new}
 use Rattle.book.proofs.books.Layout.new.Goals as goal
 
 pub returns : goal.returns

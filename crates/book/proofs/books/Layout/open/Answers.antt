@@ -1,4 +1,4 @@
-use Rattle.std.proofs.Common.{◌≡◌, List, [], sym, subst}
+use Rattle.std.proofs.Common.{[], sym, subst}
 use Rattle.law.specs.Law.{Led}
 use Rattle.law.proofs.Main.{opening-law}
 use Rattle.book.proofs.Layouts.{pair, opened-idle}

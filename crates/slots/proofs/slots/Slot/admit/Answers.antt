@@ -1,5 +1,4 @@
-use Rattle.std.proofs.Common.{ap, ◌∙◌, arith, rules}
-use Rattle.std.proofs.lemmas.Bool.Decides.{nat_tests}
+use Rattle.std.proofs.Common.{rules}
 use Rattle.slots.proofs.Openings.{begun}
 use Rattle.slots.proofs.slots.Slot.admit.Goals as goal
 
