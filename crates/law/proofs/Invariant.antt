@@ -1,6 +1,6 @@
 -- What holds of a book and of the history that led to it, between any two calls.
 use Rattle.std.proofs.Common.{◌≡◌, ℕ, zero, suc, ◌+◌, ◌<◌, ◌≤◌, min, Bool, true, false, cond, leb, ◌≢◌, List, [], ◌∷◌, map, length, get_or, set, is_ok, Ok, Option, sym, refl, ap, ◌∙◌, subst, inl, ⊎_elim, arith}
-use Rattle.std.specs.List.{AllByRecursion as All}
+use Rattle.std.specs.List.{AllByRecursion}
 use Rattle.std.proofs.lemmas.List.{length-set, get_or-set_same, get_or-set_other}
 use Rattle.std.proofs.lemmas.Bool.{cond_both, cond-true, cond-false, cases_eq, le-leb, lt-leb}
 use Rattle.entries.specs.declared.writes.Write.{Write}
@@ -125,8 +125,8 @@ module _ {V : Type 0} (k : Coding V) (back : Faithful k) (opening : List V) wher
   -- no call is lost, and reads and filings were answered as they should
   pub record Answered (S : ℕ → List V) (l : LedgerModel) (reads : List (Reading V)) (files : List (Filing V)) (wholly : Bool) : Type 0 where
     pub lossless : wholly ≡ true
-    pub shown : All (ReadRight S (head_of l)) reads
-    pub decided : All (λ (f : Filing V). f.verdict ≡ due l.capacity f) files
+    pub shown : AllByRecursion (ReadRight S (head_of l)) reads
+    pub decided : AllByRecursion (λ (f : Filing V). f.verdict ≡ due l.capacity f) files
 
   -- the invariant
   pub record Inv (S : ℕ → List V) (b : BookModel) (v : View V) : Type 0 where
@@ -236,7 +236,7 @@ module _ {V : Type 0} (k : Coding V) (back : Faithful k) (opening : List V) wher
 
     pub answered-trim : (reads : List (Reading V)) (files : List (Filing V)) (wholly : Bool) → Answered S l reads files wholly → Answered S (trimmed to l) reads files wholly
     answered-trim reads files wholly i =
-        record { lossless = i.lossless; shown = subst (λ z. All (ReadRight S z) reads) (sym trim-head) i.shown; decided = i.decided }
+        record { lossless = i.lossless; shown = subst (λ z. AllByRecursion (ReadRight S z) reads) (sym trim-head) i.shown; decided = i.decided }
 
   -- a transaction without writes is accepted
   pub serial-reader : (S : ℕ → List V) (l : LedgerModel) (ts : List (Accepted V)) (t : Accepted V) → Serial S l ts → is_update t ≡ false → place t ≤ head_of l
@@ -322,7 +322,7 @@ module _ {V : Type 0} (k : Coding V) (back : Faithful k) (opening : List V) wher
                   h.1 ∙ ap (λ z. last_put r.before.operations r.item (get_or z r.item k.blank)) (next-same r.before.snapshot h.0),
                 ))
                 reads i.shown;
-            decided = subst (λ z. All (λ (f : Filing V). f.verdict ≡ due z f) files) (sym add-floor.1) i.decided;
+            decided = subst (λ z. AllByRecursion (λ (f : Filing V). f.verdict ≡ due z f) files) (sym add-floor.1) i.decided;
           }
 
       pub heard-add : (rs : List ReplicaModel) (floor : ℕ) (versions : ℕ → ℕ) → Heard l rs floor versions → Heard (after_add ws l) rs floor versions

@@ -1,6 +1,6 @@
 -- A book as it comes from a layout.
 use Rattle.std.proofs.Common.{◌≡◌, ℕ, zero, suc, ◌+◌, ◌-◌, ◌<◌, ◌≤◌, min, Bool, false, ltb, leb, List, [], ◌∷◌, ◌++◌, map, length, get_or, take, drop, set, replicate, is_ok, None, Ok, sym, refl, ap, ◌∙◌, subst, ⊎_elim, arith}
-use Rattle.std.specs.List.{AllByRecursion as All}
+use Rattle.std.specs.List.{AllByRecursion}
 use Rattle.std.proofs.ByRecursion.{All-get_or, All-map}
 use Rattle.std.proofs.lemmas.List.{length-set, length-map, length-replicate, replicate-append-replicate, get_or-replicate, get_or_past, set-append_left, set_past, map-set}
 use Rattle.std.proofs.lemmas.Bool.{cond_both, cond-true, cond-false, cases_lt, le-leb, lt-leb, le-ltb, both_ways, or_from}
@@ -22,7 +22,7 @@ least-map : (f : ReplicaModel → ReplicaModel) (rs : List ReplicaModel) → ((r
 least-map f [] h = refl
 least-map f (r ∷ rs) h = ap (λ z. min z (least_items (map f rs))) (h r) ∙ ap (min (items_of r)) (least-map f rs h)
 
-least-all : (m : ℕ) (rs : List ReplicaModel) → m ≤ least_items rs → All (λ (r : ReplicaModel). m ≤ items_of r) rs
+least-all : (m : ℕ) (rs : List ReplicaModel) → m ≤ least_items rs → AllByRecursion (λ (r : ReplicaModel). m ≤ items_of r) rs
 least-all m [] l = tt
 least-all m (r ∷ rs) l = (omega arith, least-all m rs (omega arith))
 
@@ -54,7 +54,7 @@ module _ {V : Type 0} (k : Coding V) where
     pub items : length p ≡ least_items y.replicas
     pub floor : y.ledger.floor ≡ 0
     pub sets : y.ledger.sets ≡ []
-    pub fresh : All (Fresh p) y.replicas
+    pub fresh : AllByRecursion (Fresh p) y.replicas
 
   words-blank : (n : ℕ) → map k.word (replicate n k.blank) ≡ replicate n gap
   words-blank zero = refl
@@ -109,7 +109,7 @@ module _ {V : Type 0} (k : Coding V) where
             ∙ ap (λ z. map k.word (set p item v) ++ replicate z gap) e;
       })
 
-  unused : (p : List V) (rs : List ReplicaModel) → All (Fresh p) rs → replicas_in_use rs ≡ false
+  unused : (p : List V) (rs : List ReplicaModel) → AllByRecursion (Fresh p) rs → replicas_in_use rs ≡ false
   unused p [] h = refl
   unused p (r ∷ rs) h =
       let b0 = h.0.base in

@@ -1,6 +1,6 @@
 -- The serial order: each update makes the next state, and every other transaction leaves the state of its snapshot.
 use Rattle.std.proofs.Common.{◌≡◌, ℕ, ◌+◌, ◌<◌, ◌≤◌, Bool, true, false, cond, ◌&&◌, leb, List, [], ◌∷◌, sym, refl, ap, ◌∙◌, subst, ⊎_elim, arith}
-use Rattle.std.specs.List.{AllByRecursion as All}
+use Rattle.std.specs.List.{AllByRecursion}
 use Rattle.std.proofs.lemmas.Bool.{cond_both, cond-true, cond-false, cases_Bool, leb-true, leb-false, ltb-true, ltb-false, le-leb, lt-ltb, and_parts, and_cases}
 use Rattle.law.specs.History.{Accepted, is_update}
 use Rattle.law.specs.Serial.{place, stands_before, placed, after, Shows, after_all, Replays, updates_to}
@@ -11,9 +11,9 @@ near true n v e = (omega arith, omega arith)
 near false n v e = (omega arith, omega arith)
 
 module _ {V : Type 0} where
-  pub all_placed : (P : Accepted V → Type 0) (t : Accepted V) (ts : List (Accepted V)) → P t → All P ts → All P (placed t ts)
+  pub all_placed : (P : Accepted V → Type 0) (t : Accepted V) (ts : List (Accepted V)) → P t → AllByRecursion P ts → AllByRecursion P (placed t ts)
   all_placed P t [] p h = (p, tt)
-  all_placed P t (u ∷ us) p h = cond_both (stands_before t u) _ _ (All P) (λ _. (p, h)) (λ _. (h.0, all_placed P t us p h.1))
+  all_placed P t (u ∷ us) p h = cond_both (stands_before t u) _ _ (AllByRecursion P) (λ _. (p, h)) (λ _. (h.0, all_placed P t us p h.1))
 
   -- the places of a serial order never fall
   abbrev pub Rising : List (Accepted V) → Type 0
@@ -39,7 +39,7 @@ module _ {V : Type 0} where
 
     -- what holds between each two and between t and the others holds when t is put in
     pub pairs-placed : (R : Accepted V → Accepted V → Type 0) (ts : List (Accepted V))
-        → All (λ (y : Accepted V). stands_before t y ≡ true → R t y) ts → All (λ (x : Accepted V). R x t) ts → Rising ts → Pairs R ts → Pairs R (placed t ts)
+        → AllByRecursion (λ (y : Accepted V). stands_before t y ≡ true → R t y) ts → AllByRecursion (λ (x : Accepted V). R x t) ts → Rising ts → Pairs R ts → Pairs R (placed t ts)
     pairs-placed R [] f g r p = (tt, tt)
     pairs-placed R (u ∷ us) f g r p =
         cond_both (stands_before t u) _ _ (Pairs R)
@@ -58,11 +58,11 @@ module _ {V : Type 0} (blank : V) where
   chain-le S v h [] c = omega arith
   chain-le S v h (t ∷ ts) c = omega (arith, near (is_update t) (place t) v c.0, chain-le S (place t) h ts c.3)
 
-  pub chain-below : (S : ℕ → List V) (v h : ℕ) (ts : List (Accepted V)) → Chain S v ts h → All (λ (t : Accepted V). place t ≤ h) ts
+  pub chain-below : (S : ℕ → List V) (v h : ℕ) (ts : List (Accepted V)) → Chain S v ts h → AllByRecursion (λ (t : Accepted V). place t ≤ h) ts
   chain-below S v h [] c = tt
   chain-below S v h (t ∷ ts) c = (chain-le S (place t) h ts c.3, chain-below S (place t) h ts c.3)
 
-  chain-above : (S : ℕ → List V) (x v h : ℕ) (ts : List (Accepted V)) → x ≤ v → Chain S v ts h → All (λ (t : Accepted V). x ≤ place t) ts
+  chain-above : (S : ℕ → List V) (x v h : ℕ) (ts : List (Accepted V)) → x ≤ v → Chain S v ts h → AllByRecursion (λ (t : Accepted V). x ≤ place t) ts
   chain-above S x v h [] l c = tt
   chain-above S x v h (t ∷ ts) l c =
       let n = near (is_update t) (place t) v c.0 in

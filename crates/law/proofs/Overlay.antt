@@ -1,6 +1,6 @@
 -- Write lists laid over contents.
 use Rattle.std.proofs.Common.{◌≡◌, ℕ, ◌<◌, eqb, ltb, List, [], ◌∷◌, ◌++◌, length, set, sym, refl, ap, ◌∙◌, arith}
-use Rattle.std.specs.List.{AllByRecursion as All}
+use Rattle.std.specs.List.{AllByRecursion}
 use Rattle.std.proofs.lemmas.List.{set-append_left, set-set, set_comm}
 use Rattle.std.proofs.lemmas.Bool.{eqb-true, ltb-true, cond_both}
 use Rattle.entries.specs.declared.writes.Write.{Write}
@@ -10,7 +10,7 @@ use Rattle.replicas.proofs.Overlays.{length_over}
 
 -- every item of the list is below m
 abbrev pub Within : ℕ → List Write → Type 0
-Within m ws = All (λ (w : Write). w.item < m) ws
+Within m ws = AllByRecursion (λ (w : Write). w.item < m) ws
 
 pub length-overs : (c : List ℕ) (ss : List (List Write)) → length (overs c ss) ≡ length c
 length-overs c [] = refl

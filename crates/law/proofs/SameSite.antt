@@ -1,6 +1,6 @@
 -- The order of transactions at one site.
 use Rattle.std.proofs.Common.{◌≡◌, ℕ, suc, ◌+◌, ◌<◌, ◌≤◌, Bool, true, false, cond, ◌&&◌, eqb, ◌≢◌, ◌⊎◌, List, Some, None, Option, sym, refl, ap, ◌∙◌, subst, subst₂, inl, inr, ⊎_elim, arith}
-use Rattle.std.specs.List.{AllByRecursion as All}
+use Rattle.std.specs.List.{AllByRecursion}
 use Rattle.std.proofs.lemmas.Bool.{cond_both, cond-true, cond-false, cases_order, eqb-true, and_parts}
 use Rattle.law.specs.History.{Transaction, Accepted, is_update}
 use Rattle.law.specs.Serial.{place, placed, At}
@@ -27,16 +27,16 @@ module _ {V : Type 0} where
   -- what is known of the ends of transactions, with those still open
   pub record SameSite (clock : ℕ) (opens : ℕ → ℕ → Option (Transaction V)) (closed : Closed V) (versions : ℕ → ℕ) (head : ℕ) (order : List (Accepted V)) : Type 0 where
     -- all have begun by now
-    pub times : All (λ (t : Accepted V). t.ran.began ≤ clock) order
+    pub times : AllByRecursion (λ (t : Accepted V). t.ran.began ≤ clock) order
     -- what has ended at a site stands no later than the site's version
-    pub ended : All (λ (t : Accepted V). (time : ℕ) → ended_by closed t time ≡ true → place t ≤ versions t.site) order
+    pub ended : AllByRecursion (λ (t : Accepted V). (time : ℕ) → ended_by closed t time ≡ true → place t ≤ versions t.site) order
     -- only numbers that were given are closed
     pub closings : (t : Accepted V) (time : ℕ) → closed t time ≡ true → t.number ≤ head
     -- no transaction stands before one that ended at its site before it began
     pub pairs : Pairs (Unhindered closed) order
     -- what had ended at a site when an open transaction began there stands no later than its snapshot
     pub waiting : (site slot : ℕ) (t : Transaction V) → opens site slot ≡ Some t
-        → (t.began ≤ clock) × All (Earlier closed site t.began t.snapshot) order
+        → (t.began ≤ clock) × AllByRecursion (Earlier closed site t.began t.snapshot) order
 
   -- an open transaction was open before, or began now at the site's version
   abbrev pub From : ℕ → (ℕ → ℕ → Option (Transaction V)) → (ℕ → ℕ) → ℕ → ℕ → Transaction V → Type 0
@@ -79,7 +79,7 @@ module _ {V : Type 0} where
               let w = i.waiting site slot o.0 o.1 in
               let b = o.2 in
               let w0 = w.0 in
-              (omega arith, subst₂ (λ x y. All (Earlier closed site x y) order) (sym o.2) (sym o.3) w.1))
+              (omega arith, subst₂ (λ x y. AllByRecursion (Earlier closed site x y) order) (sym o.2) (sym o.3) w.1))
               (λ (n : (t'.began ≡ clock) × (t'.snapshot ≡ versions site)).
               let b = n.0 in (
                 omega arith,
@@ -145,7 +145,7 @@ module _ {V : Type 0} where
 
     -- a transaction without writes is accepted now
     pub same-site-reader : (t : Accepted V) → is_update t ≡ false → t.filed ≡ clock → t.ran.began ≤ clock → place t ≤ versions t.site
-        → All (Earlier closed t.site t.ran.began (place t)) order → Rising order → SameSite clock opens closed versions head (placed t order)
+        → AllByRecursion (Earlier closed t.site t.ran.began (place t)) order → Rising order → SameSite clock opens closed versions head (placed t order)
     same-site-reader t q fi be up ea ri =
         let at : (time : ℕ) → ended_by closed t time ≡ true → time ≡ clock =
         λ time e. sym (eqb-true t.filed time (sym (cond-false (is_update t) _ _ q) ∙ e)) ∙ fi in
@@ -167,7 +167,7 @@ module _ {V : Type 0} where
 
     -- an update is accepted, as the next version
     pub same-site-update : (t : Accepted V) → is_update t ≡ true → t.number ≡ head + 1 → t.ran.began ≤ clock
-        → All (λ (y : Accepted V). place y ≤ head) order → Rising order → SameSite clock opens closed versions (head + 1) (placed t order)
+        → AllByRecursion (λ (y : Accepted V). place y ≤ head) order → Rising order → SameSite clock opens closed versions (head + 1) (placed t order)
     same-site-update t q nu be top ri =
         let none : (time : ℕ) → ended_by closed t time ≡ true → ⊥ =
         λ time e. let l = i.closings t time (sym (cond-true (is_update t) _ _ q) ∙ e) in omega arith in

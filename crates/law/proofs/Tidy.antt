@@ -1,6 +1,6 @@
 -- What else holds between any two calls: each base is its site's horizon, and the ledger has what the sites need.
 use Rattle.std.proofs.Common.{◌≡◌, ℕ, ◌+◌, ◌<◌, ◌≤◌, true, false, eqb, ltb, leb, ◌≢◌, List, [], ◌∷◌, length, get_or, set, is_ok, Some, None, Ok, sym, refl, ap, ◌∙◌, subst, ⊎_elim, arith}
-use Rattle.std.specs.List.{AllByRecursion as All}
+use Rattle.std.specs.List.{AllByRecursion}
 use Rattle.std.proofs.lemmas.List.{length-set, get_or-set_same, get_or-set_other}
 use Rattle.std.proofs.ByRecursion.{All-get_or}
 use Rattle.std.proofs.lemmas.Bool.{cond_both, cond-true, cond-false, cases_eq, cases_lt, le-leb, lt-leb, lt-ltb, le-ltb, ltb-false, ne_eqb, and_from, or_from}
@@ -89,10 +89,10 @@ loose-add b s w ws n ok room y =
     }
 
 -- no site is behind the version
-none-behind : (v site : ℕ) (rs : List ReplicaModel) → behind v site rs ≡ None → All (λ (r : ReplicaModel). v ≤ version_of r) rs
+none-behind : (v site : ℕ) (rs : List ReplicaModel) → behind v site rs ≡ None → AllByRecursion (λ (r : ReplicaModel). v ≤ version_of r) rs
 none-behind v site [] = λ e. tt
 none-behind v site (r ∷ rs) =
-    cond_both (ltb (version_of r) v) (Some site) (behind v (site + 1) rs) (λ z. z ≡ None → All (λ (r : ReplicaModel). v ≤ version_of r) (r ∷ rs))
+    cond_both (ltb (version_of r) v) (Some site) (behind v (site + 1) rs) (λ z. z ≡ None → AllByRecursion (λ (r : ReplicaModel). v ≤ version_of r) (r ∷ rs))
     (λ q e. let z : ◌≡◌ {A = ℕ} 0 1 = cc in absurd (omega arith))
     (λ q e. (ltb-false (version_of r) v q, none-behind v (site + 1) rs e))
 

@@ -1,6 +1,6 @@
 -- The law on runs.
 use Rattle.std.specs.Prelude.{◌≡◌, ℕ, ◌-◌, ◌<◌, true, ◌≢◌, List, [], ◌∷◌, ◌++◌, map, length, replicate, slice_index_or}
-use Rattle.std.specs.List.{AllByRecursion as All}
+use Rattle.std.specs.List.{AllByRecursion}
 use Rattle.entries.specs.Codings.{Coding, Faithful}
 use Rattle.replicas.specs.Model.{ReplicaModel, version_of, contents_at, items_of}
 use Rattle.banks.specs.Sites.{replica_at}
@@ -42,11 +42,11 @@ module _ {V : Type 0} (k : Coding V) where
     -- each replica equals the serial book after the updates up to its site's version
     pub prefixes : (site : ℕ) → site < length rs → Holds (replica_at rs site) (version_seen h site) (serial_at opening h (version_seen h site))
     -- every accepted read showed the right value, also in transactions that were dropped, refused or are still open
-    pub shown_right : All (ShownRight opening h) (readings h)
+    pub shown_right : AllByRecursion (ShownRight opening h) (readings h)
     -- what ended at a site before another began there stands earlier
     pub same_site : SameSiteOrder h
     -- every filing of an open transaction was answered as it was due
-    pub decided : All (λ (f : Filing V). f.verdict ≡ due l.capacity f) (filings h)
+    pub decided : AllByRecursion (λ (f : Filing V). f.verdict ≡ due l.capacity f) (filings h)
 
   -- a layout that was made and had opening values laid in; p has the last of them for each item, else the blank
   pub record Laid (p : List V) (y : LayoutModel) : Type 0 where

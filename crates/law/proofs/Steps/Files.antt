@@ -1,7 +1,7 @@
 -- File keeps the invariant.
 use Rattle.std.proofs.Common.{◌≡◌, ℕ, suc, ◌+◌, ◌-◌, ◌<◌, ◌≤◌, Bool, true, false, cond, ◌&&◌, eqb, List, [], ◌∷◌, map, length, get_or, set, is_some, is_ok, Some, None, Ok, Err, Option, Result, sym, refl, ap, ◌∙◌, subst, arith}
 use mathlib.Core.Path.{fun_ext}
-use Rattle.std.specs.List.{AllByRecursion as All}
+use Rattle.std.specs.List.{AllByRecursion}
 use Rattle.std.proofs.lemmas.Bool.{cond-true, cond-false, lt-ltb, le-ltb, or_left}
 use Rattle.entries.specs.declared.writes.Write.{Write}
 use Rattle.entries.specs.Codings.{Coding, Faithful}
@@ -144,7 +144,7 @@ module _ {V : Type 0} (k : Coding V) (back : Faithful k) (opening : List V) (b :
               same_site =
                   same-site-moves (length h) (open_at h) (closed_at h) (version_seen h) (head_of l) _
                   (same-site-reader (length h) (open_at h) (closed_at h) (version_seen h) (head_of l) (ordered (accepted h)) g.inv.same_site reader ro refl wait.0 (omega arith)
-                  (subst (λ z. All (Earlier (closed_at h) c.site t.began z) (ordered (accepted h))) (sn ∙ sym pl) wait.1)
+                  (subst (λ z. AllByRecursion (Earlier (closed_at h) c.site t.began z) (ordered (accepted h))) (sn ∙ sym pl) wait.1)
                   (chain-rising k.blank S 0 (head_of l) (ordered (accepted h)) chain))
                   _
                   (from-slot (length h) (open_at h) (version_seen h) c.site c.slot None (from-none (length h) (open_at h) (version_seen h) c.site c.slot));
