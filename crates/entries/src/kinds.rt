@@ -16,7 +16,7 @@ pub trait Kind {
     // the blank, the word of each value, and the value of each word
     ghost coding: { Coding Self.Value };
 
-    // `BLANK`, with a contract: a proof does not see into an associated constant.
+    // `BLANK`, with a contract that says which value it is.
     fn empty() -> Self::Value
         ensures { result ≡ coding.blank };
 

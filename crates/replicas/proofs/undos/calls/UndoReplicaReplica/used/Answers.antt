@@ -1,6 +1,6 @@
-use Rattle.std.proofs.Common.{sym, ◌∙◌}
+use Rattle.std.proofs.Common.{arith}
 use Rattle.replicas.proofs.UndoLaws.{undo-backs}
 use Rattle.replicas.proofs.undos.calls.UndoReplicaReplica.used.Goals as goal
 
 pub returns : goal.returns
-returns c = c.len.ensures ∙ sym (undo-backs c.args.self.now).used
+returns c = omega (arith, (undo-backs c.args.self.now).used)
