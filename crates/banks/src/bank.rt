@@ -1,5 +1,5 @@
 // What a bank offers: its replicas by site, from 0 on.
-ghost use Rattle.std.specs.Prelude.{◌≡◌, ◌<◌, ◌≤◌, List, map, length, Some, None, Ok, Err};
+ghost use Rattle.std.specs.Prelude.{◌≡◌, ◌<◌, ◌≤◌, List, map, length, Some, None, Err};
 ghost use Rattle.entries.specs.Lists.{writes};
 ghost use Rattle.replicas.specs.declared.replica.Refusal.TheVariants.{NoSuchSite};
 ghost use Rattle.replicas.specs.Model.{ReplicaModel, version_of, used_of, items_of, cleared, open_answer, after_open, read_answer, take_answer, after_take, forget_answer, after_forget};

@@ -3,6 +3,7 @@ use Rattle.std.proofs.Common.{◌≡◌, ℕ, zero, suc, ◌<◌, ◌≤◌, Boo
 use mathlib.Core.Bool.{or_assoc}
 use Rattle.std.proofs.lemmas.List.{length-set, get_or-set_same, get_or-set_other, get_or_past}
 use Rattle.std.proofs.lemmas.Bool.{cond_both, cases_eq, cases_lt, eqb-true, eq-eqb, ne_eqb, or_from, or_parts, both_ways}
+use Rattle.std.proofs.Math.Bool.{or-false, or_comm}
 use Rattle.entries.specs.declared.writes.Write.{Write}
 use Rattle.entries.specs.Writes.{names, word_of, put_in}
 use Rattle.entries.specs.Items.{has, with_items}
@@ -12,16 +13,6 @@ use Rattle.law.specs.History.{Operation}
 use Rattle.law.specs.History.Operation.{shown, put}
 use Rattle.law.specs.Certification.{touches, writes_one_of}
 use Rattle.law.proofs.Overlay.{Within}
-
-pub or-false : (a : Bool) → (a || false) ≡ a
-or-false true = refl
-or-false false = refl
-
-pub or_comm : (a b : Bool) → (a || b) ≡ (b || a)
-or_comm true true = refl
-or_comm true false = refl
-or_comm false true = refl
-or_comm false false = refl
 
 or-known : (a b : Bool) → (b ≡ true → a ≡ true) → a ≡ (a || b)
 or-known true b f = refl

@@ -1,19 +1,21 @@
 -- Operations run on a serial book, and what an open slot knows of them.
-use Rattle.std.proofs.Common.{◌≡◌, ℕ, ◌<◌, ◌≤◌, Bool, true, false, cond, ◌||◌, eqb, ltb, List, [], ◌∷◌, ◌++◌, map, length, get_or, set, replicate, Some, None, unwrap_or, sym, refl, ap, ◌∙◌, arith}
-use Rattle.std.proofs.lemmas.List.{length-set, length-map, get_or-set_same, get_or-set_other, map-set, get_or-map}
-use Rattle.std.proofs.lemmas.Bool.{eqb-true, eqb-false, cond_both}
+use Rattle.std.proofs.Common.{◌≡◌, ℕ, ◌<◌, ◌≤◌, Bool, true, false, ◌||◌, eqb, ltb, List, [], ◌∷◌, ◌++◌, map, length, get_or, set, replicate, Some, None, unwrap_or, sym, refl, ap, ◌∙◌, arith}
+use Rattle.std.proofs.lemmas.List.{length-set, length-map, get_or-set_same, map-set, get_or-map}
+use Rattle.std.proofs.lemmas.Bool.{cond_both}
+use Rattle.std.proofs.Math.Bool.{or-false}
 use Rattle.entries.specs.declared.writes.Write.{Write}
 use Rattle.entries.specs.Codings.{Coding, Faithful}
 use Rattle.entries.specs.Writes.{names, word_of, put_in}
 use Rattle.entries.specs.Items.{has}
 use Rattle.replicas.specs.Overlay.{over}
+use Rattle.replicas.proofs.Overlays.{get_or-set}
 use Rattle.replicas.proofs.History.{over_word}
 use Rattle.law.specs.History.{Operation}
 use Rattle.law.specs.History.Operation.{shown, put}
 use Rattle.law.specs.Serial.{after, Shows, last_put}
 use Rattle.law.specs.Certification.{touches, writes_one_of}
 use Rattle.law.proofs.Overlay.{Within, over-put}
-use Rattle.law.proofs.Touching.{or-false, names_by, names-put, has-none, has_more, writes_more, touching-own, touching-read, touching-put}
+use Rattle.law.proofs.Touching.{names_by, names-put, has-none, has_more, writes_more, touching-own, touching-read, touching-put}
 
 module _ {V : Type 0} where
   pub after_more : (p : List V) (xs ys : List (Operation V)) → after p (xs ++ ys) ≡ after (after p xs) ys
@@ -31,18 +33,12 @@ module _ {V : Type 0} where
   length-after p (shown i v ∷ ops) = length-after p ops
   length-after p (put i v ∷ ops) = length-after (set p i v) ops ∙ length-set p i v
 
-  get_d_set : (p : List V) (i j : ℕ) (v d : V) → i < length p → get_or (set p j v) i d ≡ cond (eqb j i) v (get_or p i d)
-  get_d_set p i j v d h =
-      cond_both (eqb j i) v (get_or p i d) (λ z. get_or (set p j v) i d ≡ z)
-      (λ e. let q : j ≡ i = eqb-true j i e in rw q (get_or-set_same p i v d h))
-      (λ e. get_or-set_other p j i v d (λ q. eqb-false j i e (sym q)))
-
   -- what operations leave of an item is their last write of it
   pub after-last_put : (p : List V) (ops : List (Operation V)) (i : ℕ) (d : V) → i < length p → get_or (after p ops) i d ≡ last_put ops i (get_or p i d)
   after-last_put p [] i d h = refl
   after-last_put p (shown j v ∷ ops) i d h = after-last_put p ops i d h
   after-last_put p (put j v ∷ ops) i d h =
-      after-last_put (set p j v) ops i d (rw length-set h) ∙ ap (λ (z : V). last_put ops i z) (get_d_set p i j v d h)
+      after-last_put (set p j v) ops i d (rw length-set h) ∙ ap (λ (z : V). last_put ops i z) (get_or-set p j i v d h)
 
 module _ {V : Type 0} (k : Coding V) (back : Faithful k) where
   -- words tell values apart

@@ -7,7 +7,7 @@ use Rattle.entries.specs.Writes.{word_of}
 use Rattle.replicas.specs.Overlay.{over, overs, oldest_word_of, replaced, laid}
 use Rattle.replicas.specs.Model.{version_of, contents_at, after_take, after_forget}
 use Rattle.replicas.specs.Laws.{OldestReplacedWord, TakeKeepsHistory, ForgetKeepsHistory, newest_of, NewestWriteCounts}
-use Rattle.replicas.proofs.Overlays.{get_d_over, length_over}
+use Rattle.replicas.proofs.Overlays.{get_or-over, length_over}
 use Rattle.replicas.proofs.Undone.{over-replaced}
 
 overs-append : (c : List ℕ) (ss ts : List (List Write)) → overs c (ss ++ ts) ≡ overs (overs c ss) ts
@@ -19,7 +19,7 @@ length-laid c ws = sym (length_over (laid c ws) (replaced c ws)) ∙ ap length (
 
 pub oldest-replaced-word : OldestReplacedWord
 oldest-replaced-word c ws item h =
-    sym (get_d_over (laid c ws) (replaced c ws) item (let n = length-laid c ws in omega arith)) ∙ ap (λ d. get_or d item 0) (over-replaced c ws)
+    sym (get_or-over (laid c ws) (replaced c ws) item (let n = length-laid c ws in omega arith)) ∙ ap (λ d. get_or d item 0) (over-replaced c ws)
 
 pub take-keeps-history : TakeKeepsHistory
 take-keeps-history m ws y =
@@ -50,7 +50,7 @@ forget-keeps-history m to y =
 
 -- an item's word after a set is the set's, or else what it was
 pub over_word : (c : List ℕ) (ws : List Write) (item : ℕ) → item < length c → get_or (over c ws) item 0 ≡ unwrap_or (word_of ws item) (get_or c item 0)
-over_word c ws item h = get_d_over c ws item h ∙ same ws
+over_word c ws item h = get_or-over c ws item h ∙ same ws
   where
     same : (ws : List Write) → oldest_word_of ws item (get_or c item 0) ≡ unwrap_or (word_of ws item) (get_or c item 0)
     same [] = refl

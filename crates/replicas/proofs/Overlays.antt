@@ -1,7 +1,7 @@
 -- Contents with writes laid over them.
-use Rattle.std.proofs.Common.{◌≡◌, ℕ, ◌<◌, Bool, true, false, cond, eqb, List, [], ◌∷◌, ◌++◌, length, get_or, set, sym, refl, ap, ◌∙◌, arith}
+use Rattle.std.proofs.Common.{◌≡◌, ℕ, ◌<◌, true, false, cond, eqb, List, [], ◌∷◌, ◌++◌, length, get_or, set, sym, refl, ap, ◌∙◌, arith}
 use Rattle.std.proofs.lemmas.List.{length-set, get_or-set_same, get_or-set_other, set_comm, append_assoc, append-nil}
-use Rattle.std.proofs.lemmas.Bool.{eqb-true, eqb-false, and_parts, or_parts}
+use Rattle.std.proofs.lemmas.Bool.{cond_both, eqb-true, eqb-false, and_parts, or_parts}
 use Rattle.entries.specs.declared.writes.Write.{Write}
 use Rattle.entries.specs.Rising.{rising}
 use Rattle.entries.specs.Writes.{names}
@@ -25,24 +25,23 @@ pub joined-push : (ss : List (List Write)) (s : List Write) → joined (ss ++ (s
 joined-push [] s = append-nil s
 joined-push (t ∷ ss) s = ap (λ x. t ++ x) (joined-push ss s) ∙ sym (append_assoc t (joined ss) s)
 
--- one word after a write
-get_d_set : (c : List ℕ) (i k v : ℕ) → k < length c → get_or (set c i v) k 0 ≡ cond (eqb i k) v (get_or c k 0)
-get_d_set c i k v h = go (eqb i k) refl
-  where
-    go : (b : Bool) → eqb i k ≡ b → get_or (set c i v) k 0 ≡ cond b v (get_or c k 0)
-    go true e = ap (λ j. get_or (set c j v) k 0) (eqb-true i k e) ∙ get_or-set_same c k v 0 h
-    go false e = get_or-set_other c i k v 0 (λ p. eqb-false i k e (sym p))
+-- one element after a write
+pub get_or-set : {T : Type 0} → (xs : List T) (i k : ℕ) (v d : T) → k < length xs → get_or (set xs i v) k d ≡ cond (eqb i k) v (get_or xs k d)
+get_or-set xs i k v d h =
+    cond_both (eqb i k) v (get_or xs k d) (λ z. get_or (set xs i v) k d ≡ z)
+    (λ e. let q : i ≡ k = eqb-true i k e in rw q (get_or-set_same xs k v d h))
+    (λ e. get_or-set_other xs i k v d (λ q. eqb-false i k e (sym q)))
 
 -- an item has the word of its first write, or else what it had
-pub get_d_over : (c : List ℕ) (ws : List Write) (k : ℕ) → k < length c → get_or (over c ws) k 0 ≡ oldest_word_of ws k (get_or c k 0)
-get_d_over c [] k h = refl
-get_d_over c (w ∷ ws) k h =
-    get_d_set (over c ws) w.item k w.word (rw length_over h) ∙ ap (cond (eqb w.item k) w.word) (get_d_over c ws k h)
+pub get_or-over : (c : List ℕ) (ws : List Write) (k : ℕ) → k < length c → get_or (over c ws) k 0 ≡ oldest_word_of ws k (get_or c k 0)
+get_or-over c [] k h = refl
+get_or-over c (w ∷ ws) k h =
+    get_or-set (over c ws) w.item k w.word 0 (rw length_over h) ∙ ap (cond (eqb w.item k) w.word) (get_or-over c ws k h)
 
 -- laid one by one, that of its last write
 get_or-laid : (c : List ℕ) (ws : List Write) (k : ℕ) → k < length c → get_or (laid c ws) k 0 ≡ newest_word_of ws k (get_or c k 0)
 get_or-laid c [] k h = refl
-get_or-laid c (w ∷ ws) k h = get_or-laid (set c w.item w.word) ws k (rw length-set h) ∙ ap (newest_word_of ws k) (get_d_set c w.item k w.word h)
+get_or-laid c (w ∷ ws) k h = get_or-laid (set c w.item w.word) ws k (rw length-set h) ∙ ap (newest_word_of ws k) (get_or-set c w.item k w.word 0 h)
 
 -- where each item is written once, the order does not matter
 set-laid : (c : List ℕ) (ws : List Write) (i x : ℕ) → names ws i ≡ false → set (laid c ws) i x ≡ laid (set c i x) ws

@@ -12,7 +12,7 @@ use Rattle.replicas.specs.Records.{plain, marked, upto}
 use Rattle.replicas.specs.Logs.{records, sets_of, Holds, Kept}
 use Rattle.replicas.specs.Undos.{undo_model, redone}
 use Rattle.replicas.proofs.Logged.{empty-sets, sets-version, sets-used, sets-rest, pushed-sets, pushed-kept, forgotten-sets, forgotten-kept}
-use Rattle.replicas.proofs.Overlays.{length_over, get_d_over}
+use Rattle.replicas.proofs.Overlays.{length_over, get_or-over}
 use Rattle.replicas.proofs.Undone.{length-redone, sizes-redone, overs-redone, drop-redone, over-push, redone-push}
 use Rattle.replicas.proofs.Backed.{Backs, same-model, admitted, open_done, read_done, take_done, forget-done}
 
@@ -72,7 +72,7 @@ module _ (u : UndoReplica) where
     undo-read item x h is =
         read_done (undo_model page log) page log undo-backs at item x y h
         (is ∙ ap (λ ws. oldest_word_of ws item (get_or page item 0)) (sets-rest log u.kept at y end e)
-        ∙ sym (get_d_over page (joined (drop (at - log.base) (sets_of log))) item h) ∙ ap (λ c. get_or c item 0) (sym (undo-contents at)))
+        ∙ sym (get_or-over page (joined (drop (at - log.base) (sets_of log))) item h) ∙ ap (λ c. get_or c item 0) (sym (undo-contents at)))
 
     module _ (l' : Log) (h : Holds l' at log.version (drop end (records log)) (size log.ring)) where
       pub undo-forgotten : (Ok tt ≡ forget_answer (undo_model page log) at) × (undo_model page l' ≡ after_forget at (undo_model page log))

@@ -8,7 +8,7 @@ use Rattle.entries.specs.Writes.{names}
 use Rattle.entries.proofs.Puts.{names-above, rising-rest}
 use Rattle.replicas.specs.Overlay.{over, overs, joined, sizes, laid, oldest_word_of, replaced, names_beyond}
 use Rattle.replicas.specs.Undos.{reworded, redone}
-use Rattle.replicas.proofs.Overlays.{length_over, over-append, joined-push, get_d_over, over-laid}
+use Rattle.replicas.proofs.Overlays.{length_over, over-append, joined-push, get_or-over, over-laid}
 
 -- of the words that an item had, the oldest is the one from before all the writes
 pub over-replaced : (c : List ℕ) (ws : List Write) → over (laid c ws) (replaced c ws) ≡ c
@@ -50,7 +50,7 @@ over-reworded c ws =
     ext_get_or 0 (over (over c ws) (reworded c ws)) c same λ k h.
     let j : k < length c = rw same at h in
     let i : k < length (over c ws) = rw length_over j in
-    get_d_over (over c ws) (reworded c ws) k i ∙ ap (oldest_word_of (reworded c ws) k) (get_d_over c ws k j) ∙ back-word c ws k
+    get_or-over (over c ws) (reworded c ws) k i ∙ ap (oldest_word_of (reworded c ws) k) (get_or-over c ws k j) ∙ back-word c ws k
   where
     same : length (over (over c ws) (reworded c ws)) ≡ length c
     same = length_over (over c ws) (reworded c ws) ∙ length_over c ws

@@ -2,7 +2,6 @@
 ghost use Rattle.std.specs.Prelude.{◌≡◌, ◌<◌, [], ◌∷◌, Err};
 ghost use Rattle.law.specs.Letters.Letter.{begins, reads, writes, files, closes, drops};
 ghost use Rattle.law.specs.Books.{site_count};
-ghost use Rattle.law.specs.Slots.SlotModel.{idle, filed};
 ghost use Rattle.law.specs.Calls.{turned_away, file_by, begin_call, read_call, write_call, file_call, close_call, drop_call};
 ghost use Rattle.law.specs.Law.{KeepsLaw};
 ghost use Rattle.book.specs.Books.{book_of, outcome, call_of};

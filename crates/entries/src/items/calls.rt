@@ -1,5 +1,5 @@
 // The calls on an item set, each by the list of its flags.
-ghost use Rattle.std.specs.Prelude.{◌≡◌, ℕ, ◌<◌, true, false, ◌||◌, set, replicate, slice_set};
+ghost use Rattle.std.specs.Prelude.{◌≡◌, ℕ, ◌<◌, true, false, ◌||◌, replicate, slice_set};
 ghost use Rattle.entries.specs.Writes.{names};
 ghost use Rattle.entries.specs.Lists.{writes};
 ghost use Rattle.entries.specs.Items.{flags_of, has, with_items};
