@@ -1,28 +1,10 @@
 -- The sites of a replica and the bank beside it, of which the first eight are offered.
-use Rattle.std.proofs.Common.{◌≡◌, ℕ, zero, suc, ◌-◌, ◌<◌, ◌≤◌, List, [], ◌∷◌, get_or, take, set, sym, refl, ap, ◌∙◌, sub-one, arith}
-use Rattle.std.proofs.lemmas.List.{places, length-take, get_or-take, set_past}
-use Rattle.std.proofs.lemmas.Bool.{cond-false, le-ltb}
+use Rattle.std.proofs.Common.{◌≡◌, ℕ, zero, suc, ◌-◌, ◌<◌, List, ◌∷◌, get_or, take, set, sym, refl, ap, ◌∙◌, sub-one, arith}
+use Rattle.std.proofs.Math.Seq.{take-set-lt}
+use Rattle.std.proofs.lemmas.List.{places, get_or-take}
 use Rattle.std.proofs.lemmas.Bool.Decides.{nat_tests}
 use Rattle.replicas.specs.Model.{ReplicaModel}
 use Rattle.banks.specs.Sites.{most_sites, no_replica, at_site, changed_at}
-
-take-set : {X : Type 0} (n : ℕ) (xs : List X) (i : ℕ) (y : X) → take n (set xs i y) ≡ set (take n xs) i y
-take-set zero xs i y = refl
-take-set (suc n) [] i y = refl
-take-set (suc n) (x ∷ xs) zero y = refl
-take-set (suc n) (x ∷ xs) (suc i) y = ap (λ l. x ∷ l) (take-set n xs i y)
-
-module _ (r : ReplicaModel) (rs : List ReplicaModel) (site : ℕ) where
-  -- no site from the eighth on
-  pub past-answer : {X : Type 0} (answer : ReplicaModel → X) (refused : X) → most_sites ≤ site →
-      refused ≡ at_site (take most_sites (r ∷ rs)) site answer refused
-  past-answer answer refused past =
-      sym (cond-false _ _ _ (le-ltb site _ (omega (arith, length-take most_sites (r ∷ rs)))))
-
-  pub past-change : (change : ReplicaModel → ReplicaModel) → most_sites ≤ site →
-      take most_sites (r ∷ rs) ≡ changed_at (take most_sites (r ∷ rs)) site change
-  past-change change past =
-      sym (set_past (take most_sites (r ∷ rs)) site _ (omega (arith, length-take most_sites (r ∷ rs))))
 
 -- a site past the first is one of the rest
 module _ (r : ReplicaModel) (rs : List ReplicaModel) where
@@ -36,5 +18,5 @@ module _ (r : ReplicaModel) (rs : List ReplicaModel) where
   rest-change zero change ms below later e = absurd (later refl)
   rest-change (suc site) change ms below later e =
       ap (λ l. take most_sites (r ∷ l)) e ∙ rw sub-one (ap (λ l. r ∷ l) (
-      take-set 7 rs site (change (get_or rs site no_replica))
+      take-set-lt 7 rs site (change (get_or rs site no_replica)) (omega arith)
       ∙ ap (λ m. set (take 7 rs) site (change m)) (sym (get_or-take 7 rs site no_replica (omega arith)))))

@@ -11,6 +11,8 @@ use replicas::Refusal;
 // A bank counts no more items than these.
 const MOST_ITEMS: usize = 256;
 
+// A method for each call on a site: one that runs a closure at a site would do, if a `&dyn Replica` could be made of a
+// replica whose type is a parameter.
 pub trait Bank {
     // the replicas that the bank offers, by site
     ghost means: { Self → List ReplicaModel };
@@ -54,6 +56,7 @@ pub trait Bank {
         ensures least { result ≡ least_items (means self.now) }
         ensures most { result ≤ 256 }
     {
+        // a loop: of a chain over the sites the proof did not close
         let mut least = MOST_ITEMS;
         for site in 0..self.sites() {
             if let Some(count) = self.items_at(site) {
@@ -67,11 +70,10 @@ pub trait Bank {
     fn in_use(&self) -> bool
         ensures { result ≡ is_in_use (means self.now) }
     {
+        // a loop: of a chain over the sites the proof did not close
         for site in 0..self.sites() {
-            if let Some(version) = self.version(site) {
-                if version > 0 {
-                    return true;
-                }
+            if self.version(site).is_some_and(|version| version > 0) {
+                return true;
             }
         }
         false

@@ -29,93 +29,74 @@ impl<R: Replica, B: Bank> Bank for Beside<R, B> {
     }
 
     fn version(&self, site: usize) -> Option<u32> {
-        if site >= MOST_SITES {
-            None
-        } else if site == 0 {
-            Some(self.replica.version())
-        } else {
-            self.rest.version(site - 1)
+        match site {
+            0 => Some(self.replica.version()),
+            MOST_SITES.. => None,
+            _ => self.rest.version(site - 1),
         }
     }
 
     fn base(&self, site: usize) -> Option<u32> {
-        if site >= MOST_SITES {
-            None
-        } else if site == 0 {
-            Some(self.replica.base())
-        } else {
-            self.rest.base(site - 1)
+        match site {
+            0 => Some(self.replica.base()),
+            MOST_SITES.. => None,
+            _ => self.rest.base(site - 1),
         }
     }
 
     fn used(&self, site: usize) -> Option<usize> {
-        if site >= MOST_SITES {
-            None
-        } else if site == 0 {
-            Some(self.replica.used())
-        } else {
-            self.rest.used(site - 1)
+        match site {
+            0 => Some(self.replica.used()),
+            MOST_SITES.. => None,
+            _ => self.rest.used(site - 1),
         }
     }
 
     fn items_at(&self, site: usize) -> Option<usize> {
-        if site >= MOST_SITES {
-            None
-        } else if site == 0 {
-            Some(self.replica.items())
-        } else {
-            self.rest.items_at(site - 1)
+        match site {
+            0 => Some(self.replica.items()),
+            MOST_SITES.. => None,
+            _ => self.rest.items_at(site - 1),
         }
     }
 
     fn read(&self, site: usize, at: u32, item: usize) -> Result<u64, Refusal> {
-        if site >= MOST_SITES {
-            Err(Refusal::NoSuchSite)
-        } else if site == 0 {
-            self.replica.read(at, item)
-        } else {
-            self.rest.read(site - 1, at, item)
+        match site {
+            0 => self.replica.read(at, item),
+            MOST_SITES.. => Err(Refusal::NoSuchSite),
+            _ => self.rest.read(site - 1, at, item),
         }
     }
 
     fn take(&mut self, site: usize, set: &WriteList) -> Result<u32, Refusal> {
-        if site >= MOST_SITES {
-            Err(Refusal::NoSuchSite)
-        } else if site == 0 {
-            self.replica.take(set)
-        } else {
-            self.rest.take(site - 1, set)
+        match site {
+            0 => self.replica.take(set),
+            MOST_SITES.. => Err(Refusal::NoSuchSite),
+            _ => self.rest.take(site - 1, set),
         }
     }
 
     fn forget(&mut self, site: usize, to: u32) -> Result<(), Refusal> {
-        if site >= MOST_SITES {
-            Err(Refusal::NoSuchSite)
-        } else if site == 0 {
-            self.replica.forget(to)
-        } else {
-            self.rest.forget(site - 1, to)
+        match site {
+            0 => self.replica.forget(to),
+            MOST_SITES.. => Err(Refusal::NoSuchSite),
+            _ => self.rest.forget(site - 1, to),
         }
     }
 
     fn clear_at(&mut self, site: usize, word: u64) {
-        if site >= MOST_SITES {
-            return;
-        }
-        if site == 0 {
-            self.replica.clear(word);
-        } else {
-            self.rest.clear_at(site - 1, word);
+        match site {
+            0 => self.replica.clear(word),
+            MOST_SITES.. => {}
+            _ => self.rest.clear_at(site - 1, word),
         }
     }
 
     fn open_word_at(&mut self, site: usize, item: usize, word: u64) -> Result<(), Refusal> {
-        if site >= MOST_SITES {
-            Err(Refusal::NoSuchSite)
-        } else if site == 0 {
-            self.replica.open_word(item, word)
-        } else {
-            self.rest.open_word_at(site - 1, item, word)
+        match site {
+            0 => self.replica.open_word(item, word),
+            MOST_SITES.. => Err(Refusal::NoSuchSite),
+            _ => self.rest.open_word_at(site - 1, item, word),
         }
     }
 }

@@ -10,9 +10,14 @@ use Rattle.law.specs.Slots.{SlotModel, slot_count}
 use Rattle.law.specs.Slots.SlotModel.{idle, opened, filed}
 use Rattle.law.specs.Books.{BookModel, site_count, site_version, row_at, slot_at, with_slot, settled}
 use Rattle.law.specs.Calls.{Outcome, refuse, accept, at_site, at_known_slot, begin_on, read_on, write_on, file_on, close_on, drop_on, begin_call, read_call, write_call, file_call, close_call, drop_call}
-use Rattle.slots.specs.Slots.{admit_answer, after_admit}
+use Rattle.slots.specs.declared.slots.State.{State}
+use Rattle.slots.specs.declared.slots.State.TheVariants.{Idle, Open, Filed}
+use Rattle.slots.specs.Slots.{number_of, admit_answer, after_admit}
 use Rattle.book.specs.declared.answers.Refused.{Refused}
-use Rattle.book.specs.Entering.{Entry, barred, admitted_by, entered, resumed}
+use Rattle.book.specs.Answers.{answer_of}
+use Rattle.book.specs.Books.{outcome}
+use Rattle.book.specs.Entering.{Entry, entry, barred, admitted_by, entered, resumed}
+use Rattle.book.proofs.Calls.{gone-on, refused}
 
 -- a slot put back as it was
 pub put_back : (b : BookModel) (site slot : ℕ) (x : SlotModel) → slot_at b site slot ≡ x → with_slot b site slot x ≡ b
@@ -60,6 +65,11 @@ module _ {V : Type 0} (k : Coding V) (b : BookModel) (site slot : ℕ) where
       by idle e = ap (λ z. accept k (with_slot b site slot (after_admit 66 (site_version b site) z)) (site_version b site)) (sym e)
       by (opened s ws items) e = refl
       by (filed n) e = refl
+
+  -- what it comes to, whether it was admitted or not
+  pub begin-told : (b' : BookModel) (v : Result ℕ Refused) → entry b' v ≡ entered b 66 site slot → outcome b' (answer_of k v) ≡ begin_call k b site slot
+  begin-told b' (Ok n) e = gone-on k b b' 66 site slot _ (λ x m. accept k x m) begin-by n _ e refl
+  begin-told b' (Err x) e = refused k b b' 66 site slot _ (λ y m. accept k y m) begin-by x _ e refl
 
   pub drop-by : drop_call k b site slot ≡ resumed k (entered b 88 site slot) (λ b' n. accept k (settled b' site) n)
   unfolding drop_call drop_on
@@ -121,17 +131,17 @@ module _ {V : Type 0} (k : Coding V) (b : BookModel) (site slot : ℕ) where
       let found = entered-ok letter b' n e in
       by here refl found.0 found.1 found.2
     where
-      none : {X : Type 0} (x : SlotModel) (state : ℕ) → admit_answer letter (site_version b site) x ≡ Err state
+      none : {X : Type 0} (x : SlotModel) (state : State) → admit_answer letter (site_version b site) x ≡ Err state
           → record { book = b'; verdict = Ok n } ≡ admitted_by b letter site slot (admit_answer letter (site_version b site) x) → X
       none x state q h =
-          let v : ◌≡◌ {A = Result ℕ Refused} (Ok n) (Err (record { code = WrongState; number = state })) =
+          let v : ◌≡◌ {A = Result ℕ Refused} (Ok n) (Err (record { code = WrongState; number = number_of state })) =
           ap (λ (z : Entry). z.verdict) (h ∙ ap (admitted_by b letter site slot) q) in
           let z : ◌≡◌ {A = ℕ} 0 1 = cc in absurd (omega arith)
 
       by : (x : SlotModel) → here ≡ x → ltb site (site_count b) ≡ true → ltb slot slot_count ≡ true
           → record { book = b'; verdict = Ok n } ≡ admitted_by b letter site slot (admit_answer letter (site_version b site) x) → Opened b' n
-      by idle ex p q h = none idle 0 (cond-false (eqb letter 66) _ _ no-begin) h
-      by (filed m) ex p q h = none (filed m) 2 (cond-false (eqb letter 67) _ _ no-close) h
+      by idle ex p q h = none idle Idle (cond-false (eqb letter 66) _ _ no-begin) h
+      by (filed m) ex p q h = none (filed m) (Filed m) (cond-false (eqb letter 67) _ _ no-close) h
       by (opened s ws items) ex p q h =
           ⊎_elim
           (λ (yes : (eqb letter 82 || (eqb letter 87 || (eqb letter 70 || eqb letter 88))) ≡ true).
@@ -146,7 +156,7 @@ module _ {V : Type 0} (k : Coding V) (b : BookModel) (site slot : ℕ) where
             same = bb;
             does = λ on. cond-true (ltb site (site_count b)) _ _ p ∙ cond-true (ltb slot slot_count) _ _ q ∙ ap on (ex ∙ ap (λ z. opened z ws items) ns);
           })
-          (λ (no : (eqb letter 82 || (eqb letter 87 || (eqb letter 70 || eqb letter 88))) ≡ false). none (opened s ws items) 1 (cond-false _ _ _ no) h)
+          (λ (no : (eqb letter 82 || (eqb letter 87 || (eqb letter 70 || eqb letter 88))) ≡ false). none (opened s ws items) (Open s) (cond-false _ _ _ no) h)
           (cases_Bool (eqb letter 82 || (eqb letter 87 || (eqb letter 70 || eqb letter 88))))
 
   -- a call that has entered has found its site
@@ -188,6 +198,6 @@ module _ {V : Type 0} (k : Coding V) (b : BookModel) (site slot : ℕ) where
       let found = entered-ok letter b' n e in
       by (admit_answer letter (site_version b site) here) found.2
     where
-      by : (r : Result ℕ ℕ) → record { book = b'; verdict = Ok n } ≡ admitted_by b letter site slot r → site < site_count b'
+      by : (r : Result ℕ State) → record { book = b'; verdict = Ok n } ≡ admitted_by b letter site slot r → site < site_count b'
       by (Ok m) q = subst (λ (z : BookModel). site < site_count z) (sym (ap (λ (z : Entry). z.book) q)) (entered-site letter b' n e)
       by (Err x) q = subst (λ (z : BookModel). site < site_count z) (sym (ap (λ (z : Entry). z.book) q)) (entered-site letter b' n e)

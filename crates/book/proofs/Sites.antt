@@ -1,7 +1,7 @@
 -- The calls that look at no slot, by what the parts of the book answer and leave.
-use Rattle.std.proofs.Common.{◌≡◌, ℕ, ◌+◌, ◌<◌, ◌≤◌, ltb, List, [], map, length, get_or, drop, set, is_ok, Some, None, Ok, Err, Option, Result, sym, ap, ◌∙◌, arith}
-use Rattle.std.proofs.lemmas.List.{at_drop_more, at_drop_all, get_or_past, set-get_or}
-use Rattle.std.proofs.lemmas.Bool.{cond-true, cond-false, lt-ltb, le-ltb, ltb-false, cond_both}
+use Rattle.std.proofs.Common.{◌≡◌, ℕ, ◌+◌, ◌<◌, ◌≤◌, ltb, List, [], map, length, get_or, drop, set, is_ok, Some, None, Ok, Err, Option, Result, sym, ap, ◌∙◌}
+use Rattle.std.proofs.lemmas.List.{at_drop_more, at_drop_all, set-get_or}
+use Rattle.std.proofs.lemmas.Bool.{cond-true, cond-false, lt-ltb, le-ltb}
 use Rattle.entries.specs.declared.writes.Write.{Write}
 use Rattle.entries.specs.Codings.{Coding}
 use Rattle.replicas.specs.declared.replica.Refusal.{Refusal}
@@ -10,20 +10,13 @@ use Rattle.replicas.specs.Model.{ReplicaModel, version_of, used_of, take_answer,
 use Rattle.banks.specs.Sites.{no_replica, replica_at, at_site as asked, changed_at}
 use Rattle.ledgers.specs.Model.{LedgerModel, head_of, fetched, trimmed}
 use Rattle.law.specs.declared.calls.Answer.{Answer}
-use Rattle.law.specs.declared.codes.Code.TheVariants.{Accepted, NoSuchSite, NothingToDeliver, ReplicaFull, AboveHead, SiteBehind}
+use Rattle.law.specs.declared.codes.Code.TheVariants.{Accepted, NothingToDeliver, ReplicaFull, AboveHead, SiteBehind}
 use Rattle.law.specs.Slots.{SlotModel, restarted, open_count}
-use Rattle.law.specs.Books.{BookModel, site_version, replica_of, with_row, settled}
-use Rattle.law.specs.Calls.{Outcome, plain, behind, at_site, deliver_by, deliver_on, trim_by, deliver_call, trim_call, restart_call, version_call, count_call}
+use Rattle.law.specs.Books.{BookModel, site_count, site_version, replica_of, with_ledger, with_row, settled}
+use Rattle.law.specs.Calls.{Outcome, plain, behind, at_site, deliver_by, deliver_on, trim_by, deliver_call, trim_call, restart_call}
 use Rattle.book.specs.Books.{outcome}
-use Rattle.book.proofs.Rows.{book, version-there, version-nowhere, row_seen, row_moved, replica-moved}
+use Rattle.book.proofs.Rows.{book, row_seen, row_moved, replica-moved}
 use Rattle.book.proofs.Calls.{same_outcome}
-
--- where a bank answers nothing there is no replica
-pub none-there : {X : Type 0} (rs : List ReplicaModel) (s : ℕ) (f : ReplicaModel → X) → None ≡ asked rs s (λ m. Some (f m)) None → replica_at rs s ≡ no_replica
-none-there {X} rs s f =
-    cond_both (ltb s (length rs)) (Some (f (replica_at rs s))) None (λ (z : Option X). None ≡ z → replica_at rs s ≡ no_replica)
-    (λ _ e. let z : ◌≡◌ {A = ℕ} 0 1 = cc in absurd (omega arith))
-    (λ q _. get_or_past rs s no_replica (ltb-false s (length rs) q))
 
 -- what a bank answers of a site that there is
 pub asked-there : {X : Type 0} (rs : List ReplicaModel) (s : ℕ) (f : ReplicaModel → X) (x none : X) → s < length rs → x ≡ asked rs s f none → x ≡ f (replica_at rs s)
@@ -47,34 +40,24 @@ module _ (rs : List ReplicaModel) (to s : ℕ) (so_far : behind to s (drop s rs)
   pub behind-none : length rs ≤ s → None ≡ behind to 0 rs
   behind-none h = sym (at_drop_all (behind to s) rs s h) ∙ so_far
 
+-- a delivery where the site has every version
+pub deliver-none : {V : Type 0} (k : Coding V) (b : BookModel) (site v : ℕ) → (site < site_count b) × (v ≡ site_version b site) → head_of b.ledger ≤ v
+    → outcome b (plain k NothingToDeliver v) ≡ deliver_call k b site
+unfolding deliver_call deliver_on at_site
+deliver-none k b site v there h =
+    ap (λ z. outcome b (plain k NothingToDeliver z)) there.1
+    ∙ sym (cond-false (ltb (site_version b site) (head_of b.ledger)) _ _ (ap (λ z. ltb z (head_of b.ledger)) (sym there.1) ∙ le-ltb v (head_of b.ledger) h))
+    ∙ sym (cond-true (ltb site (site_count b)) _ _ (lt-ltb site (site_count b) there.0))
+
 module _ {V : Type 0} (k : Coding V) (l : LedgerModel) (rs : List ReplicaModel) (rows : List (List SlotModel)) (a : ℕ) where
   abbrev b : BookModel
   b = book l rs rows a
-
-  pub count-told : (r : Answer V) → r ≡ plain k Accepted a → outcome b r ≡ count_call k b
-  unfolding count_call
-  count-told r e = ap (outcome b) e
 
   module _ (s : ℕ) where
     -- at a site that there is, a call is what it does there
     here : (o : Outcome V) → s < length rs → o ≡ at_site k b s o
     unfolding at_site
     here o h = sym (cond-true (ltb s (length rs)) _ _ (lt-ltb s (length rs) h))
-
-    -- and at one that there is not, it is refused
-    nowhere : (r : Answer V) (o : Outcome V) → length rs ≤ s → r ≡ plain k NoSuchSite (length rs) → outcome b r ≡ at_site k b s o
-    unfolding at_site
-    nowhere r o h e = ap (outcome b) e ∙ sym (cond-false (ltb s (length rs)) _ _ (le-ltb s (length rs) h))
-
-    pub version-told : (v : ℕ) (r : Answer V) → Some v ≡ asked rs s (λ m. Some (version_of m)) None → r ≡ plain k Accepted v → outcome b r ≡ version_call k b s
-    unfolding version_call
-    version-told v r ev e =
-        let there = version-there rs s v ev in
-        ap (outcome b) (e ∙ ap (plain k Accepted) there.1) ∙ here _ there.0
-
-    pub version-refused : (r : Answer V) → None ≡ asked rs s (λ m. Some (version_of m)) None → r ≡ plain k NoSuchSite (length rs) → outcome b r ≡ version_call k b s
-    unfolding version_call
-    version-refused r ev e = nowhere r _ (version-nowhere rs s ev) e
 
     pub restart-told : (rows' : List (List SlotModel)) (b' : BookModel) (n : ℕ) (r : Answer V) → s < length rs
         → rows' ≡ set rows s (map restarted (get_or rows s [])) → n ≡ open_count (get_or rows s []) → b' ≡ settled (book l rs rows' a) s → r ≡ plain k Accepted n
@@ -87,30 +70,13 @@ module _ {V : Type 0} (k : Coding V) (l : LedgerModel) (rs : List ReplicaModel) 
         (e ∙ ap (plain k Accepted) (lost ∙ ap open_count row))
         ∙ here _ h
 
-    pub restart-refused : (r : Answer V) → length rs ≤ s → r ≡ plain k NoSuchSite (length rs) → outcome b r ≡ restart_call k b s
-    unfolding restart_call
-    restart-refused r h e = nowhere r _ h e
-
-    pub deliver-nowhere : (r : Answer V) → None ≡ asked rs s (λ m. Some (version_of m)) None → r ≡ plain k NoSuchSite (length rs) → outcome b r ≡ deliver_call k b s
-    unfolding deliver_call
-    deliver-nowhere r ev e = nowhere r _ (version-nowhere rs s ev) e
-
-    module _ (v : ℕ) (ev : Some v ≡ asked rs s (λ m. Some (version_of m)) None) where
-      pub deliver-none : (r : Answer V) → head_of l ≤ v → r ≡ plain k NothingToDeliver v → outcome b r ≡ deliver_call k b s
-      unfolding deliver_call deliver_on
-      deliver-none r h e =
-          let there = version-there rs s v ev in
-          ap (outcome b) (e ∙ ap (plain k NothingToDeliver) there.1)
-          ∙ sym (cond-false (ltb (site_version b s) (head_of l)) _ _ (ap (λ z. ltb z (head_of l)) (sym there.1) ∙ le-ltb v (head_of l) h))
-          ∙ here _ there.0
-
+    module _ (v : ℕ) (there : (s < length rs) × (v ≡ site_version b s)) where
       -- the set of the next version comes to the replica
       module _ (ws : List Write) (rs' : List ReplicaModel) (below : v < head_of l) (set_is : ws ≡ fetched l (v + 1)) (moved : rs' ≡ changed_at rs s (after_take ws)) where
         -- the answer of the replica decides
         decided : (x : Result ℕ Refusal) → x ≡ asked rs s (λ m. take_answer m ws) (Err NoReplica) → deliver_by k b s ws x ≡ deliver_call k b s
         unfolding deliver_call deliver_on
         decided x e =
-            let there = version-there rs s v ev in
             let is : ws ≡ fetched l (site_version b s + 1) = set_is ∙ ap (λ z. fetched l (z + 1)) there.1 in
             ap (deliver_by k b s ws) (asked-there rs s (λ m. take_answer m ws) x (Err NoReplica) there.0 e)
             ∙ ap (λ z. deliver_by k b s z (take_answer (replica_of b s) z)) is
@@ -123,34 +89,33 @@ module _ {V : Type 0} (k : Coding V) (l : LedgerModel) (rs : List ReplicaModel) 
         delivered n b' r en eb e =
             same_outcome b' _ r _ (eb ∙ ap (λ z. settled z s) (replica-moved l rs rows a s rs' (after_take ws (replica_at rs s)) moved)) e ∙ decided (Ok n) en
 
-        pub deliver-refused : (x : Refusal) (u : ℕ) (r : Answer V) → Err x ≡ asked rs s (λ m. take_answer m ws) (Err NoReplica)
-            → u ≡ used_of (replica_at rs' s) → r ≡ plain k ReplicaFull u → outcome (book l rs' rows a) r ≡ deliver_call k b s
+        pub deliver-refused : (x : Refusal) (u : ℕ) → Err x ≡ asked rs s (λ m. take_answer m ws) (Err NoReplica)
+            → u ≡ used_of (replica_at rs' s) → outcome (book l rs' rows a) (plain k ReplicaFull u) ≡ deliver_call k b s
         unfolding deliver_by
-        deliver-refused x u r ex eu e =
-            let there = version-there rs s v ev in
+        deliver-refused x u ex eu =
             let same = moved ∙ refused-stay rs s ws x (asked-there rs s (λ m. take_answer m ws) (Err x) (Err NoReplica) there.0 ex) in
-            same_outcome (book l rs' rows a) b r _ (ap (λ z. book l z rows a) same)
-            (e ∙ ap (plain k ReplicaFull) (eu ∙ ap (λ z. used_of (replica_at z s)) same))
+            same_outcome (book l rs' rows a) b _ _ (ap (λ z. book l z rows a) same)
+            (ap (plain k ReplicaFull) (eu ∙ ap (λ z. used_of (replica_at z s)) same))
             ∙ decided (Err x) ex
 
-  module _ (to : ℕ) where
-    pub trim-above : (h : ℕ) (r : Answer V) → h ≡ head_of l → h < to → r ≡ plain k AboveHead h → outcome b r ≡ trim_call k b to
-    unfolding trim_call
-    trim-above h r eh above e =
-        ap (outcome b) (e ∙ ap (plain k AboveHead) eh) ∙ sym (cond-true (ltb (head_of l) to) _ _ (ap (λ z. ltb z to) (sym eh) ∙ lt-ltb h to above))
+-- a trim, by the head and by the sites
+module _ {V : Type 0} (k : Coding V) (b : BookModel) (to : ℕ) where
+  pub trim-above : (h : ℕ) → h ≡ head_of b.ledger → h < to → outcome b (plain k AboveHead h) ≡ trim_call k b to
+  unfolding trim_call
+  trim-above h eh above =
+      ap (λ z. outcome b (plain k AboveHead z)) eh ∙ sym (cond-true (ltb (head_of b.ledger) to) _ _ (ap (λ z. ltb z to) (sym eh) ∙ lt-ltb h to above))
 
-    -- the lowest site behind decides
-    trim-by : (x : Option ℕ) → to ≤ head_of l → x ≡ behind to 0 rs → trim_by k b to x ≡ trim_call k b to
-    unfolding trim_call
-    trim-by x h e = ap (trim_by k b to) e ∙ sym (cond-false (ltb (head_of l) to) _ _ (le-ltb (head_of l) to h))
+  -- the lowest site behind decides
+  trim-by : (x : Option ℕ) → to ≤ head_of b.ledger → x ≡ behind to 0 b.replicas → trim_by k b to x ≡ trim_call k b to
+  unfolding trim_call
+  trim-by x h e = ap (trim_by k b to) e ∙ sym (cond-false (ltb (head_of b.ledger) to) _ _ (le-ltb (head_of b.ledger) to h))
 
-    pub trim-behind : (site : ℕ) (r : Answer V) → to ≤ head_of l → Some site ≡ behind to 0 rs → r ≡ plain k SiteBehind site → outcome b r ≡ trim_call k b to
-    unfolding trim_by
-    trim-behind site r h es e = ap (outcome b) e ∙ trim-by (Some site) h es
+  pub trim-behind : (site : ℕ) → to ≤ head_of b.ledger → Some site ≡ behind to 0 b.replicas → outcome b (plain k SiteBehind site) ≡ trim_call k b to
+  unfolding trim_by
+  trim-behind site h e = trim-by (Some site) h e
 
-    pub trim-told : (l' : LedgerModel) (f : ℕ) (r : Answer V) → to ≤ head_of l → None ≡ behind to 0 rs → l' ≡ trimmed to l → f ≡ l'.floor → r ≡ plain k Accepted f
-        → outcome (book l' rs rows a) r ≡ trim_call k b to
-    unfolding trim_by
-    trim-told l' f r h es el ef e =
-        same_outcome (book l' rs rows a) _ r _ (ap (λ z. book z rs rows a) el) (e ∙ ap (plain k Accepted) (ef ∙ ap (λ (z : LedgerModel). z.floor) el))
-        ∙ trim-by None h es
+  pub trim-told : (l' : LedgerModel) (f : ℕ) → to ≤ head_of b.ledger → None ≡ behind to 0 b.replicas → l' ≡ trimmed to b.ledger → f ≡ l'.floor
+      → outcome (with_ledger b l') (plain k Accepted f) ≡ trim_call k b to
+  unfolding trim_by
+  trim-told l' f h e el ef =
+      ap (λ z. outcome (with_ledger b l') (plain k Accepted z)) ef ∙ ap (λ (z : LedgerModel). outcome (with_ledger b z) (plain k Accepted z.floor)) el ∙ trim-by None h e

@@ -19,10 +19,12 @@ use Rattle.law.specs.Calls.{Outcome, plain, refuse, accept, show, shown_as, at_k
 use Rattle.slots.specs.Slots.{own_word, noted, put_answer, after_put}
 use Rattle.slots.specs.Tables.{slot_in, changed_slot}
 use Rattle.book.specs.Books.{outcome}
-use Rattle.book.specs.Entering.{entry, entered}
+use Rattle.book.specs.declared.answers.Refused.{Refused}
+use Rattle.book.specs.Answers.{refusal, answer_of, by_list}
+use Rattle.book.specs.Entering.{item_in, entry, entered}
 use Rattle.book.proofs.Entries.{Opened, entered-site, put_back}
 use Rattle.book.proofs.Rows.{book, slot_seen, slot-moved}
-use Rattle.book.proofs.Calls.{same_outcome}
+use Rattle.book.proofs.Calls.{same_outcome, item-found, item-missing}
 
 module _ {V : Type 0} (k : Coding V) (site slot : ℕ) where
   -- a close before the delivery, and after it
@@ -43,9 +45,27 @@ entered_here k b site slot letter l rs rows a n e o =
     let h = entered-site k b site slot letter (book l rs rows a) n e in
     subst (λ (z : BookModel). site < site_count z) (sym o.same) h
 
--- a transaction that is open at a slot of the book of these parts
-module _ {V : Type 0} (k : Coding V) (b : BookModel) (l : LedgerModel) (rs : List ReplicaModel) (rows : List (List SlotModel)) (a site slot n item : ℕ)
-    (h : site < length rs) (o : Opened k b site slot (book l rs rows a) n) where
+-- a call on an item, at a slot whose transaction is open
+module _ {V : Type 0} (k : Coding V) (b b' : BookModel) (site slot n item : ℕ) (o : Opened k b site slot b' n) where
+  -- the book does not have the item
+  past : (x : Refused) (on : Outcome V) → Err x ≡ item_in b' item → outcome b' (refusal k x) ≡ at_known_item k b item on
+  unfolding at_known_item
+  past x on h =
+      let p = item-missing b' item x h in
+      ap (λ z. outcome b' (refusal k z)) p.1 ∙ ap (λ z. refuse k z NoSuchItem (item_count z)) o.same
+      ∙ sym (cond-false (ltb item (item_count b)) _ _ (subst (λ z. ltb item (item_count z) ≡ false) o.same (le-ltb item (item_count b') p.0)))
+
+  pub read-past : (x : Refused) (r : Answer V) → Err x ≡ item_in b' item → r ≡ refusal k x → outcome b' r ≡ read_call k b site slot item
+  unfolding read_call read_on
+  read-past x r h e = ap (outcome b') e ∙ past x _ h ∙ sym (o.does (read_on k b site slot item))
+
+  pub write-past : (value : V) (x : Refused) (r : Answer V) → Err x ≡ item_in b' item → r ≡ refusal k x → outcome b' r ≡ write_call k b site slot item value
+  unfolding write_call write_on
+  write-past value x r h e = ap (outcome b') e ∙ past x _ h ∙ sym (o.does (write_on k b site slot item value))
+
+-- a transaction that is open at a slot of the book of these parts, and an item that the book has
+module _ {V : Type 0} (k : Coding V) (b : BookModel) (l : LedgerModel) (rs : List ReplicaModel) (rows : List (List SlotModel)) (a site slot n item i : ℕ)
+    (h : site < length rs) (o : Opened k b site slot (book l rs rows a) n) (found : Ok i ≡ item_in (book l rs rows a) item) where
   abbrev b' : BookModel
   b' = book l rs rows a
 
@@ -55,48 +75,33 @@ module _ {V : Type 0} (k : Coding V) (b : BookModel) (l : LedgerModel) (rs : Lis
   slot-here : slot_in rows site slot ≡ x
   slot-here = sym (slot_seen l rs rows a site slot h) ∙ o.slot_is
 
-  -- a call on an item that the book has not
-  past : (on : Outcome V) → item_count b' ≤ item → outcome b' (plain k NoSuchItem (item_count b')) ≡ at_known_item k b item on
+  within : (on : Outcome V) → on ≡ at_known_item k b item on
   unfolding at_known_item
-  past on p =
-      ap (λ z. refuse k z NoSuchItem (item_count z)) o.same
-      ∙ sym (cond-false (ltb item (item_count b)) _ _ (subst (λ z. ltb item (item_count z) ≡ false) o.same (le-ltb item (item_count b') p)))
+  within on = sym (cond-true (ltb item (item_count b)) _ _ (subst (λ z. ltb item (item_count z) ≡ true) o.same (lt-ltb item (item_count b') (item-found b' item i found).0)))
 
-  within : (on : Outcome V) → item < item_count b' → on ≡ at_known_item k b item on
-  unfolding at_known_item
-  within on p = sym (cond-true (ltb item (item_count b)) _ _ (subst (λ z. ltb item (item_count z) ≡ true) o.same (lt-ltb item (item_count b') p)))
+  here : i ≡ item
+  here = (item-found b' item i found).1
 
-  pub read_past : (r : Answer V) (m : ℕ) → m ≡ item_count b' → m ≤ item → r ≡ plain k NoSuchItem m → outcome b' r ≡ read_call k b site slot item
-  unfolding read_call read_on
-  read_past r m e p q =
-      ap (outcome b') (q ∙ ap (plain k NoSuchItem) e) ∙ past _ (omega arith) ∙ sym (o.does (read_on k b site slot item))
-
-  pub read-own : (m w : ℕ) (v : V) → m ≡ item_count b' → item < m → Some w ≡ own_word item (slot_in rows site slot) → v ≡ k.value w
-      → outcome b' (record { code = Accepted; number = n; value = v }) ≡ read_call k b site slot item
+  pub read-own : (w : ℕ) (v : V) → Some w ≡ own_word i (slot_in rows site slot) → v ≡ k.value w → show k b' n v ≡ read_call k b site slot item
   unfolding read_call read_on word_read
-  read-own m w v e p q f =
+  read-own w v q f =
       ap (λ z. show k b' n z) f ∙ ap (λ z. show k z n (k.value w)) o.same
-      ∙ ap (word_read k b site slot item n o.writes o.reads) (q ∙ ap (own_word item) slot-here)
-      ∙ within _ (omega arith) ∙ sym (o.does (read_on k b site slot item))
+      ∙ ap (word_read k b site slot item n o.writes o.reads) (q ∙ ap (own_word i) slot-here ∙ ap (λ z. own_word z x) here)
+      ∙ within _ ∙ sym (o.does (read_on k b site slot item))
 
-  pub read-else : (m : ℕ) (v : V) (rows' : List (List SlotModel)) (w : Result ℕ Refusal) → m ≡ item_count b' → item < m → None ≡ own_word item (slot_in rows site slot)
-      → rows' ≡ changed_slot rows site slot (noted item) → w ≡ at_site rs site (λ z. read_answer z n item) (Err NoSuchSite) → v ≡ shown_as k w
-      → outcome (book l rs rows' a) (record { code = Accepted; number = n; value = v }) ≡ read_call k b site slot item
+  pub read-else : (v : V) (rows' : List (List SlotModel)) (w : Result ℕ Refusal) → None ≡ own_word i (slot_in rows site slot)
+      → rows' ≡ changed_slot rows site slot (noted i) → w ≡ at_site rs site (λ z. read_answer z n i) (Err NoSuchSite) → v ≡ shown_as k w
+      → show k (book l rs rows' a) n v ≡ read_call k b site slot item
   unfolding read_call read_on word_read
-  read-else m v rows' w e p q er ew ev =
-      let word : w ≡ read_answer (replica_of b' site) n item = ew ∙ cond-true (ltb site (length rs)) _ _ (lt-ltb site (length rs) h) in
-      ap (λ z. show k z n v) (slot-moved l rs rows a site slot rows' (noted item) h er ∙ ap (λ z. with_slot b' site slot (noted item z)) o.slot_is)
+  read-else v rows' w q er ew ev =
+      let word : w ≡ read_answer (replica_of b' site) n item = ew ∙ cond-true (ltb site (length rs)) _ _ (lt-ltb site (length rs) h) ∙ ap (read_answer (replica_of b' site) n) here in
+      ap (λ z. show k z n v) (slot-moved l rs rows a site slot rows' (noted i) h er ∙ ap (λ z. with_slot b' site slot (noted i z)) o.slot_is ∙ ap (λ z. with_slot b' site slot (noted z x)) here)
       ∙ ap (show k (with_slot b' site slot (opened n o.writes (set o.reads item true))) n) (ev ∙ ap (shown_as k) word)
       ∙ ap (λ z. show k (with_slot z site slot (opened n o.writes (set o.reads item true))) n (shown_as k (read_answer (replica_of z site) n item))) o.same
-      ∙ ap (word_read k b site slot item n o.writes o.reads) (q ∙ ap (own_word item) slot-here)
-      ∙ within _ (omega arith) ∙ sym (o.does (read_on k b site slot item))
+      ∙ ap (word_read k b site slot item n o.writes o.reads) (q ∙ ap (own_word i) slot-here ∙ ap (λ z. own_word z x) here)
+      ∙ within _ ∙ sym (o.does (read_on k b site slot item))
 
   module _ (value : V) (word : ℕ) (ew : word ≡ k.word value) where
-    pub write-past : (r : Answer V) (m : ℕ) → m ≡ item_count b' → m ≤ item → r ≡ plain k NoSuchItem m → outcome b' r ≡ write_call k b site slot item value
-    unfolding write_call write_on
-    write-past r m e p q =
-        ap (outcome b') (q ∙ ap (plain k NoSuchItem) e) ∙ past _ (omega arith) ∙ sym (o.does (write_on k b site slot item value))
-
     -- whether the list takes the write
     took : (len : ℕ) → Ok len ≡ put_answer item word x → (may_put o.writes item ≡ true) × (len ≡ length (put_in o.writes item word))
     took len =
@@ -115,23 +120,33 @@ module _ {V : Type 0} (k : Coding V) (b : BookModel) (l : LedgerModel) (rs : Lis
     moved_to : (rows' : List (List SlotModel)) → rows' ≡ changed_slot rows site slot (after_put item word) → book l rs rows' a ≡ with_slot b' site slot (after_put item word x)
     moved_to rows' er = slot-moved l rs rows a site slot rows' (after_put item word) h er ∙ ap (λ z. with_slot b' site slot (after_put item word z)) o.slot_is
 
-    pub write-put : (m len : ℕ) (r : Answer V) (rows' : List (List SlotModel)) → m ≡ item_count b' → item < m → Ok len ≡ put_answer item word (slot_in rows site slot)
-        → rows' ≡ changed_slot rows site slot (after_put item word) → r ≡ plain k Accepted len → outcome (book l rs rows' a) r ≡ write_call k b site slot item value
+    pub write-put : (len : ℕ) (rows' : List (List SlotModel)) → Ok len ≡ put_answer item word (slot_in rows site slot)
+        → rows' ≡ changed_slot rows site slot (after_put item word) → outcome (book l rs rows' a) (plain k Accepted len) ≡ write_call k b site slot item value
     unfolding write_call write_on
-    write-put m len r rows' e p q er f =
+    write-put len rows' q er =
         let yes = took len (q ∙ ap (put_answer item word) slot-here) in
-        same_outcome _ _ _ _ (moved_to rows' er ∙ ap (with_slot b' site slot) (cond-true (may_put o.writes item) _ _ yes.0)) (f ∙ ap (plain k Accepted) yes.1)
+        same_outcome _ _ _ _ (moved_to rows' er ∙ ap (with_slot b' site slot) (cond-true (may_put o.writes item) _ _ yes.0)) (ap (plain k Accepted) yes.1)
         ∙ ap (λ z. accept k (with_slot b' site slot (opened n (put_in o.writes item z) o.reads)) (length (put_in o.writes item z))) ew
         ∙ ap (λ z. accept k (with_slot z site slot (opened n (put_in o.writes item (k.word value)) o.reads)) (length (put_in o.writes item (k.word value)))) o.same
         ∙ sym (cond-true (may_put o.writes item) _ (refuse k b ListFull 8) yes.0)
-        ∙ within _ (omega arith) ∙ sym (o.does (write_on k b site slot item value))
+        ∙ within _ ∙ sym (o.does (write_on k b site slot item value))
 
-    pub write-full : (m : ℕ) (f : full) (r : Answer V) (rows' : List (List SlotModel)) → m ≡ item_count b' → item < m → Err f ≡ put_answer item word (slot_in rows site slot)
-        → rows' ≡ changed_slot rows site slot (after_put item word) → r ≡ plain k ListFull 8 → outcome (book l rs rows' a) r ≡ write_call k b site slot item value
+    pub write-full : (f : full) (rows' : List (List SlotModel)) → Err f ≡ put_answer item word (slot_in rows site slot)
+        → rows' ≡ changed_slot rows site slot (after_put item word) → outcome (book l rs rows' a) (plain k ListFull 8) ≡ write_call k b site slot item value
     unfolding write_call write_on
-    write-full m f r rows' e p q er g =
+    write-full f rows' q er =
         let no = took-none f (q ∙ ap (put_answer item word) slot-here) in
-        same_outcome _ _ _ _
-        (moved_to rows' er ∙ ap (with_slot b' site slot) (cond-false (may_put o.writes item) _ _ no) ∙ put_back b' site slot x o.slot_is ∙ o.same) g
+        ap (λ z. outcome z (plain k ListFull 8))
+        (moved_to rows' er ∙ ap (with_slot b' site slot) (cond-false (may_put o.writes item) _ _ no) ∙ put_back b' site slot x o.slot_is ∙ o.same)
         ∙ sym (cond-false (may_put o.writes item) _ (refuse k b ListFull 8) no)
-        ∙ within _ (omega arith) ∙ sym (o.does (write_on k b site slot item value))
+        ∙ within _ ∙ sym (o.does (write_on k b site slot item value))
+
+    -- a write is taken or the list is full; the item is known by either of its names
+    pub write-done : (r : Result ℕ full) (v : Result ℕ Refused) (rows' : List (List SlotModel)) → r ≡ put_answer i word (slot_in rows site slot)
+        → rows' ≡ changed_slot rows site slot (after_put i word) → v ≡ by_list r → outcome (book l rs rows' a) (answer_of k v) ≡ write_call k b site slot item value
+    write-done (Ok len) v rows' q er ev =
+        ap (λ z. outcome (book l rs rows' a) (answer_of k z)) ev
+        ∙ write-put len rows' (q ∙ ap (λ z. put_answer z word (slot_in rows site slot)) here) (er ∙ ap (λ z. changed_slot rows site slot (after_put z word)) here)
+    write-done (Err f) v rows' q er ev =
+        ap (λ z. outcome (book l rs rows' a) (answer_of k z)) ev
+        ∙ write-full f rows' (q ∙ ap (λ z. put_answer z word (slot_in rows site slot)) here) (er ∙ ap (λ z. changed_slot rows site slot (after_put z word)) here)

@@ -1,21 +1,11 @@
 // A day with a book of counts: item 0 is lamps, item 1 is chairs.
+use crate::frame::Plan;
 use crate::report::{heading, say, show};
 use banks::Bank;
-use book::{Book, Layout, Parts};
+use book::{Book, Layout};
 use entries::Count;
 use ledgers::Ledger;
 use std::io;
-
-// Opening stock.
-fn lay_in<L: Ledger, B: Bank>(
-    rt: &HostRuntime,
-    layout: &mut Layout<Count, L, B>,
-) -> io::Result<()> {
-    heading(rt, "Three shops lay in their opening stock")?;
-    say(rt, "12 lamps as item 0", layout.lay(0, Count::new(12)))?;
-    say(rt, "7 chairs as item 1", layout.lay(1, Count::new(7)))?;
-    say(rt, "3 tables as item 9", layout.lay(9, Count::new(3)))
-}
 
 // Shop 0 sells a lamp.
 fn first_sale<L: Ledger, B: Bank>(
@@ -134,27 +124,31 @@ fn night<L: Ledger, B: Bank>(rt: &HostRuntime, book: &mut Book<Count, L, B>) -> 
     say(rt, "filings turned away", book.count())
 }
 
-// The hours of the day.
-fn hours<L: Ledger, B: Bank>(rt: &HostRuntime, book: &mut Book<Count, L, B>) -> io::Result<()> {
-    first_sale(rt, book)?;
-    second_sale(rt, book)?;
-    noon(rt, book)?;
-    look_back(rt, book)?;
-    evening(rt, book)?;
-    night(rt, book)
-}
+// A day with a book of counts.
+pub(crate) struct Counts;
 
-// The whole day, from parts to parts.
-pub(crate) fn day<L: Ledger, B: Bank>(
-    rt: &HostRuntime,
-    parts: Parts<L, B>,
-) -> (Parts<L, B>, io::Result<()>) {
-    let mut layout = Layout::<Count, L, B>::new(parts);
-    let laid = lay_in(rt, &mut layout);
-    let mut book = layout.open();
-    let told = match laid {
-        Ok(()) => hours(rt, &mut book),
-        Err(error) => Err(error),
-    };
-    (book.wind_up(), told)
+impl Plan for Counts {
+    type Entry = Count;
+
+    fn lay_in<L: Ledger, B: Bank>(
+        rt: &HostRuntime,
+        layout: &mut Layout<Count, L, B>,
+    ) -> io::Result<()> {
+        heading(rt, "Three shops lay in their opening stock")?;
+        say(rt, "12 lamps as item 0", layout.lay(0, Count::new(12)))?;
+        say(rt, "7 chairs as item 1", layout.lay(1, Count::new(7)))?;
+        say(rt, "3 tables as item 9", layout.lay(9, Count::new(3)))
+    }
+
+    fn make_use<L: Ledger, B: Bank>(
+        rt: &HostRuntime,
+        book: &mut Book<Count, L, B>,
+    ) -> io::Result<()> {
+        first_sale(rt, book)?;
+        second_sale(rt, book)?;
+        noon(rt, book)?;
+        look_back(rt, book)?;
+        evening(rt, book)?;
+        night(rt, book)
+    }
 }

@@ -3,11 +3,15 @@
 
 mod cards;
 mod counts;
+mod frame;
 mod report;
 
 use banks::{Alone, Bank, Beside};
 use book::Parts;
+use cards::Cards;
+use counts::Counts;
 use entries::WriteList;
+use frame::day;
 use ledgers::{IndexLedger, Ledger, ScanLedger};
 use replicas::{PageReplica, Record, UndoReplica};
 use std::io;
@@ -19,10 +23,10 @@ fn both<S: Ledger + Drop, I: Ledger + Drop, B: Bank + Drop>(
     index: I,
     bank: B,
 ) -> io::Result<()> {
-    let (parts, told) = counts::day(rt, Parts { ledger: scan, bank });
+    let (parts, told) = day::<Counts, S, B>(rt, Parts { ledger: scan, bank });
     let Parts { ledger: _, bank } = parts;
     told?;
-    let (parts, told) = cards::day(
+    let (parts, told) = day::<Cards, I, B>(
         rt,
         Parts {
             ledger: index,
@@ -42,7 +46,7 @@ fn ledgers<B: Bank + Drop>(rt: &HostRuntime, bank: B) -> io::Result<()> {
     both(rt, &mut scan, &mut index, bank)
 }
 
-// Three sites are kept here and lent.
+// Three sites are kept here and lent; what they stand on lies in the frame that lends it, so no function can make them.
 fn main(rt: HostRuntime) -> io::Result<()> {
     let mut page = [0u64; 4];
     let mut records = [Record::BLANK; 5];

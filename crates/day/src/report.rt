@@ -1,7 +1,29 @@
-// How the tour tells what it does.
+// How the day tells what it does.
 use entries::{Card, Count};
-use law::Answer;
+use law::{Answer, Code};
 use std::io;
+
+// A value that a read shows.
+pub(crate) trait Shown: Copy {
+    // Says what the value is.
+    fn tell(self, rt: &HostRuntime) -> io::Result<()>;
+}
+
+impl Shown for Count {
+    fn tell(self, rt: &HostRuntime) -> io::Result<()> {
+        let count = self.number;
+        println!(rt; "    it shows {count}")
+    }
+}
+
+impl Shown for Card {
+    fn tell(self, rt: &HostRuntime) -> io::Result<()> {
+        let stage = u64::from(self.stage);
+        let bench = self.bench;
+        let minutes = self.minutes;
+        println!(rt; "    it shows stage {stage}, bench {bench}, {minutes} minutes")
+    }
+}
 
 // Says what comes next.
 pub(crate) fn heading(rt: &HostRuntime, text: &str) -> io::Result<()> {
@@ -11,26 +33,17 @@ pub(crate) fn heading(rt: &HostRuntime, text: &str) -> io::Result<()> {
 // Says what a call was answered.
 pub(crate) fn say<V: Copy>(rt: &HostRuntime, what: &str, answer: Answer<V>) -> io::Result<()> {
     let number = answer.number;
-    let code = answer.code.number();
-    if code == 0 {
-        println!(rt; "  {what}: accepted, number {number}")
-    } else {
-        println!(rt; "  {what}: refused with code {code}, number {number}")
+    match answer.code {
+        Code::Accepted => println!(rt; "  {what}: accepted, number {number}"),
+        code => {
+            let code = code.number();
+            println!(rt; "  {what}: refused with code {code}, number {number}")
+        }
     }
 }
 
-// Says what a read of a count was answered.
-pub(crate) fn show(rt: &HostRuntime, what: &str, answer: Answer<Count>) -> io::Result<()> {
+// Says what a read was answered.
+pub(crate) fn show<V: Shown>(rt: &HostRuntime, what: &str, answer: Answer<V>) -> io::Result<()> {
     say(rt, what, answer)?;
-    let count = answer.value.number;
-    println!(rt; "    it shows {count}")
-}
-
-// Says what a read of a card was answered.
-pub(crate) fn show_card(rt: &HostRuntime, what: &str, answer: Answer<Card>) -> io::Result<()> {
-    say(rt, what, answer)?;
-    let stage = answer.value.stage as u64;
-    let bench = answer.value.bench;
-    let minutes = answer.value.minutes;
-    println!(rt; "    it shows stage {stage}, bench {bench}, {minutes} minutes")
+    answer.value.tell(rt)
 }

@@ -1,8 +1,8 @@
 // Kinds of entry: a type of value, its blank, and its coding into words.
-ghost use Rattle.std.specs.Prelude.{◌≡◌};
+ghost use Rattle.std.specs.Prelude.{◌≡◌, refl};
 ghost use Rattle.entries.specs.Codings.{Coding, Faithful, BlankElsewhere};
-ghost use Rattle.entries.specs.Counts.{count_coding};
-ghost use Rattle.entries.specs.Cards.{card_coding, stage_of_number};
+ghost use Rattle.entries.specs.Counts.{count_coding, no_count};
+ghost use Rattle.entries.specs.Cards.{card_coding, no_card};
 ghost use Rattle.entries.specs.CountsLemmas as Counts;
 ghost use Rattle.entries.specs.CardsLemmas as Cards;
 
@@ -11,14 +11,14 @@ use crate::values::{Card, Count, Stage};
 pub trait Kind {
     type Value: Copy;
 
+    // The value that an item has where nothing else was given.
     const BLANK: Self::Value;
+
+    // the same in clauses
+    ghost BLANK: { Self.Value };
 
     // the blank, the word of each value, and the value of each word
     ghost coding: { Coding Self.Value };
-
-    // `BLANK`, with a contract that says which value it is.
-    fn empty() -> Self::Value
-        ensures { result ≡ coding.blank };
 
     fn encode(value: Self::Value) -> u64
         ensures { result ≡ coding.word value };
@@ -31,10 +31,10 @@ pub trait Kind {
 
     // a word that codes no value decodes to the blank
     ghost elsewhere: { BlankElsewhere coding };
-}
 
-// Words from here on code no count.
-const COUNT_WORDS: u64 = 4294967296;
+    // the constant is the coding's blank
+    ghost blank_is: { BLANK ≡ coding.blank };
+}
 
 // Counts: the word of a number is the number modulo 4294967296.
 impl Kind for Count {
@@ -42,26 +42,26 @@ impl Kind for Count {
 
     const BLANK: Count = Count { number: 0 };
 
+    ghost BLANK = { no_count };
+
     ghost coding = { count_coding };
 
     ghost faithful = { Counts.faithful };
 
     ghost elsewhere = { Counts.elsewhere };
 
-    fn empty() -> Count {
-        Self::BLANK
-    }
+    ghost blank_is = { refl };
 
     fn encode(value: Count) -> u64 {
         u64::from(value.number.cast_unsigned())
     }
 
     fn decode(word: u64) -> Count {
-        if word >= COUNT_WORDS {
-            return Self::empty();
-        }
-        Count {
-            number: (word as u32).cast_signed(),
+        match u32::try_from(word) {
+            Ok(bits) => Count {
+                number: bits.cast_signed(),
+            },
+            Err(_) => Self::BLANK,
         }
     }
 }
@@ -95,18 +95,18 @@ impl Kind for Card {
         minutes: 0,
     };
 
+    ghost BLANK = { no_card };
+
     ghost coding = { card_coding };
 
     ghost faithful = { Cards.faithful };
 
     ghost elsewhere = { Cards.elsewhere };
 
-    fn empty() -> Card {
-        Self::BLANK
-    }
+    ghost blank_is = { refl };
 
     fn encode(value: Card) -> u64 {
-        value.stage as u64
+        u64::from(value.stage)
             + BENCH_UNIT * u64::from(value.bench)
             + PART_UNIT * u64::from(value.part)
             + MINUTES_UNIT * u64::from(value.minutes)
@@ -114,30 +114,17 @@ impl Kind for Card {
 
     fn decode(word: u64) -> Card {
         if word >= CARD_WORDS {
-            return Self::empty();
+            return Self::BLANK;
         }
-        let Some(stage) = stage_of(word % BYTE) else {
-            return Self::empty();
+        let Ok(stage) = Stage::try_from(word % BYTE) else {
+            return Self::BLANK;
         };
+        // casts: each remainder fits, and the word's layout is plain in them
         Card {
             stage,
             bench: (word / BENCH_UNIT % BYTE) as u8,
             part: (word / PART_UNIT % TWO_BYTES) as u16,
             minutes: (word / MINUTES_UNIT % TWO_BYTES) as u16,
         }
-    }
-}
-
-// The stage of a number: 0, 6 and more have none.
-fn stage_of(number: u64) -> Option<Stage>
-    ensures { result ≡ stage_of_number number }
-{
-    match number {
-        1 => Some(Stage::Received),
-        2 => Some(Stage::Waiting),
-        3 => Some(Stage::OnBench),
-        4 => Some(Stage::Ready),
-        5 => Some(Stage::Gone),
-        _ => None,
     }
 }

@@ -11,5 +11,6 @@ pub mod writes;
 pub use items::ItemSet;
 pub use kinds::Kind;
 pub use lists::{ListFull, WriteList};
+pub use values::stages::NoSuchStage;
 pub use values::{Card, Count, Stage};
 pub use writes::Write;

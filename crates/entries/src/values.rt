@@ -2,6 +2,7 @@
 ghost use Rattle.std.specs.Prelude.{◌<◌, pos, negsuc, ◌≤ℤ◌};
 
 pub mod makes;
+pub mod stages;
 
 // A shelf count.
 #[derive(Clone, Copy, PartialEq, Eq, Debug)]

@@ -2,7 +2,7 @@
 use Rattle.std.proofs.Common.{◌≡◌, ℕ, zero, suc, ◌<◌, ◌≤◌, Bool, true, false, ◌||◌, eqb, ltb, List, [], ◌∷◌, ◌++◌, length, set, replicate, Some, None, sym, refl, ap, ◌∙◌, ⊎_elim, arith}
 use mathlib.Core.Bool.{or_assoc}
 use Rattle.std.proofs.lemmas.List.{length-set, get_or-set_same, get_or-set_other, get_or_past}
-use Rattle.std.proofs.lemmas.Bool.{cond_both, cases_eq, cases_lt, eqb-true, eq-eqb, ne_eqb, or_from, or_parts, both_ways}
+use Rattle.std.proofs.lemmas.Bool.{cond_both, cases_eq, cases_lt, eqb-true, eq-eqb, ne_eqb, or_from, or_left, or_parts, both_ways}
 use Rattle.std.proofs.Math.Bool.{or-false, or_comm}
 use Rattle.entries.specs.declared.writes.Write.{Write}
 use Rattle.entries.specs.Writes.{names, word_of, put_in}
@@ -18,12 +18,6 @@ or-known : (a b : Bool) → (b ≡ true → a ≡ true) → a ≡ (a || b)
 or-known true b f = refl
 or-known false true f = f refl
 or-known false false f = refl
-
-or-again : (a b : Bool) → (a || b) ≡ ((b || a) || b)
-or-again true true = refl
-or-again true false = refl
-or-again false true = refl
-or-again false false = refl
 
 or-late : (a b c : Bool) → ((a || b) || c) ≡ ((a || c) || b)
 or-late true b c = refl
@@ -49,7 +43,7 @@ names-put P (w ∷ ws) i x =
     (λ _. ap (λ z. P w.item || z) (names-put P ws i x) ∙ sym (or_assoc (P w.item) (names_by P ws) (P i)))
     (λ _.
     cond_both (eqb w.item i) _ _ (λ z. names_by P z ≡ (names_by P (w ∷ ws) || P i))
-    (λ e. let q : w.item ≡ i = eqb-true w.item i e in rw q (or_comm (P i) (names_by P ws) ∙ or-again (names_by P ws) (P i)))
+    (λ e. let q : w.item ≡ i = eqb-true w.item i e in rw q (or-known (P i || names_by P ws) (P i) (or_left (P i) (names_by P ws))))
     (λ _. or_comm (P i) (P w.item || names_by P ws)))
 
 -- a list has a word for the items that it names, and for no others

@@ -1,8 +1,9 @@
 // A call on a book, and what it is answered.
 use crate::codes::Code;
 
-// One call. The letter says which; fields that the call does not look at may hold anything.
-#[derive(Clone, Copy)]
+// One call. The letter, a byte of text as the format of a call has it, says which; fields that the call does not look at
+// may hold anything.
+#[derive(Clone, Copy, PartialEq, Eq, Debug)]
 pub struct Call<V> {
     pub letter: u8,
     pub site: u32,
@@ -11,8 +12,9 @@ pub struct Call<V> {
     pub value: V,
 }
 
-// What a call was answered. The value is the one that an accepted read showed, and else the blank.
-#[derive(Clone, Copy)]
+// What a call was answered: code, number and value, as the format of an answer has them. The value is the one that an
+// accepted read showed, and else the blank.
+#[derive(Clone, Copy, PartialEq, Eq, Debug)]
 pub struct Answer<V> {
     pub code: Code,
     pub number: u64,

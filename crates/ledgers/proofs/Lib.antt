@@ -2,6 +2,4 @@ pub mod Greatest
 pub mod Fetches
 pub mod Newest
 pub mod Meets
-pub mod Adds
-pub mod Logged
 pub mod Indexed

@@ -13,6 +13,10 @@ There m last = (item : ℕ) → item < 256 → m.floor < slice_index last item �
 abbrev pub Last : LedgerModel → List ℕ → Type 0
 Last m last = (item v : ℕ) → (item < 256) × (slice_index last item < v) → names (fetched m v) item ≡ false
 
+-- the index tells the truth above the floor
+abbrev pub Tells : LedgerModel → List ℕ → Type 0
+Tells m last = There m last × Last m last
+
 -- the index with the version for each item of a set
 abbrev pub raised : List ℕ → List Write → ℕ → List ℕ
 raised last [] version = last

@@ -1,5 +1,5 @@
 -- What a ledger means, and what each call on it answers and leaves.
-use Rattle.std.specs.Prelude.{ℕ, ◌+◌, ◌-◌, min, max, Bool, false, cond, ◌&&◌, ◌||◌, List, [], ◌∷◌, ◌++◌, length, drop, is_ok, Some, None, Ok, Err, Option, Result, ◌==◌, nat_le, nat_lt, slice_index_or}
+use Rattle.std.specs.Prelude.{ℕ, ◌+◌, ◌-◌, min, max, Bool, false, cond, ◌&&◌, ◌||◌, List, [], ◌∷◌, ◌++◌, length, drop, is_ok, Some, None, Ok, Err, Option, Result, ◌==◌, nat_le, nat_lt, slice_get, slice_index_or}
 use Rattle.entries.specs.declared.writes.Write.{Write}
 use Rattle.entries.specs.Items.{has}
 use Rattle.ledgers.specs.declared.ledger.LedgerRefusal.{LedgerRefusal}
@@ -51,6 +51,10 @@ add_answer m ws =
 -- a list that is added is the set of the next version
 abbrev pub after_add : List Write → LedgerModel → LedgerModel
 after_add ws m = cond (is_ok (add_answer m ws)) (record { floor = m.floor; sets = m.sets ++ (ws ∷ []); capacity = m.capacity }) m
+
+-- the set of a version above the floor and up to the head; no other has one
+abbrev pub entry_of : LedgerModel → ℕ → Option (List Write)
+entry_of m v = cond (nat_lt m.floor v) (slice_get m.sets (v - m.floor - 1)) None
 
 -- the set of a version above the floor and up to the head, or else the empty list
 abbrev pub fetched : LedgerModel → ℕ → List Write

@@ -17,8 +17,8 @@ pub fn file<L: Ledger>(
     ensures answer { result ≡ file_answer (L.means ledger.old) snapshot (flags_of items.now) (writes list.now) }
     ensures after { L.means ledger.new ≡ after_file snapshot (flags_of items.now) (writes list.now) (L.means ledger.old) }
 {
-    match (*ledger).newest(snapshot, items)? {
+    match ledger.newest(snapshot, items)? {
         Some(version) => Err(LedgerRefusal::Conflict(version)),
-        None => (*ledger).add(list),
+        None => ledger.add(list),
     }
 }

@@ -6,8 +6,10 @@ ghost use Rattle.ledgers.specs.Model.{LedgerModel, head_of, cleared, newest_answ
 
 use entries::{ItemSet, WriteList};
 
+mod told;
+
 // Why a call on a ledger was refused.
-#[derive(Clone, Copy)]
+#[derive(Clone, Copy, PartialEq, Eq, Debug)]
 pub enum LedgerRefusal {
     // a snapshot below the floor, which is told
     BelowFloor(u32),
@@ -59,7 +61,7 @@ pub trait Ledger {
         ensures { result ≡ (means self.now).capacity };
 }
 
-// A ledger that is lent.
+// A ledger that is lent: a caller that keeps it lends it, so each call is handed on.
 impl<'a, L: Ledger> Ledger for &'a mut L {
     ghost means = { λ l. L.Ledger.means l.now };
 

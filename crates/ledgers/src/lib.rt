@@ -2,13 +2,17 @@
 #![tactic(auto)]
 
 pub mod filing;
+pub mod finder;
 pub mod index;
 pub mod laws;
 pub mod ledger;
 mod log;
+pub mod log_ledger;
 pub mod scan;
 
 pub use filing::file;
-pub use index::IndexLedger;
+pub use finder::Finder;
+pub use index::{Index, IndexLedger};
 pub use ledger::{Ledger, LedgerRefusal};
-pub use scan::ScanLedger;
+pub use log_ledger::LogLedger;
+pub use scan::{Scan, ScanLedger};

@@ -1,9 +1,11 @@
 pub mod Stamps
 pub mod Orders
+pub mod Admitted
 pub mod Logged
 pub mod Overlays
 pub mod Undone
 pub mod Turns
+pub mod Scans
 pub mod Backed
 pub mod PageLaws
 pub mod UndoLaws

@@ -1,9 +1,10 @@
 -- Records whose versions never fall are those of the sets that are cut from them.
-use Rattle.std.proofs.Common.{◌≡◌, ℕ, zero, suc, ◌+◌, ◌<◌, ◌≤◌, true, false, ◌&&◌, leb, List, [], ◌∷◌, ◌++◌, map, length, take, drop, sym, refl, ap, ◌∙◌, ⊎_elim, one-add, arith}
+use Rattle.std.proofs.Common.{◌≡◌, ℕ, zero, suc, ◌+◌, ◌<◌, ◌≤◌, true, false, ◌&&◌, leb, List, [], ◌∷◌, ◌++◌, map, length, get_or, take, drop, sym, refl, ap, ◌∙◌, ⊎_elim, one-add, arith}
+use Rattle.std.specs.List.Sorted.{IsNonDecreasingBy}
 use Rattle.std.proofs.lemmas.Bool.{cond-true, cond-false, le-leb, leb-true, leb-false, and_parts, and_from, cases_Bool}
 use Rattle.std.proofs.lemmas.List.{take-append-drop}
 use Rattle.entries.specs.declared.writes.Write.{Write}
-use Rattle.replicas.specs.declared.logs.Record.{Record}
+use Rattle.replicas.specs.declared.records.Record.{Record}
 use Rattle.replicas.specs.Records.{plain, marked, stamped, upto, cut, ordered}
 
 -- the parts of the test at the first record
@@ -78,3 +79,18 @@ ordered-stamped b high [] h = refl
 ordered-stamped b high (s ∷ ss) h =
     ordered-marked (b + 1) (b + 1) high s (stamped (b + 1) ss) (omega arith) (omega arith)
     (ordered-lower (b + 1 + 1) (b + 1) high (stamped (b + 1) ss) (omega arith) (ordered-stamped (b + 1) high ss (omega arith)))
+
+-- no record is of a version below
+ordered-above : (low high : ℕ) (rs : List Record) (k : ℕ) (d : Record) → ordered low high rs ≡ true → k < length rs → low ≤ (get_or rs k d).version
+ordered-above low high [] k d o h = absurd (omega arith)
+ordered-above low high (r ∷ rs) zero d o h = first-low low high r rs o
+ordered-above low high (r ∷ rs) (suc k) d o h =
+    let l = first-low low high r rs o in
+    let m = ordered-above r.version high rs k d (rest-ordered low high r rs o) (omega arith) in omega arith
+
+pub versions-rise : (low high : ℕ) (rs : List Record) → ordered low high rs ≡ true → IsNonDecreasingBy (λ r. r.version) rs
+versions-rise low high [] o i j d l h = absurd (omega arith)
+versions-rise low high (r ∷ rs) o zero zero d l h = omega arith
+versions-rise low high (r ∷ rs) o zero (suc j) d l h = ordered-above r.version high rs j d (rest-ordered low high r rs o) (omega arith)
+versions-rise low high (r ∷ rs) o (suc i) zero d l h = absurd (omega arith)
+versions-rise low high (r ∷ rs) o (suc i) (suc j) d l h = versions-rise r.version high rs (rest-ordered low high r rs o) i j d (omega arith) (omega arith)

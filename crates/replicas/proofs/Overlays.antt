@@ -7,15 +7,8 @@ use Rattle.entries.specs.Rising.{rising}
 use Rattle.entries.specs.Writes.{names}
 use Rattle.entries.proofs.Puts.{names-above, rising-rest}
 use Rattle.replicas.specs.Overlay.{over, overs, joined, laid, newest_word_of, oldest_word_of}
-use Rattle.replicas.specs.Pages.{all_rising}
-
-pub length_over : (c : List ℕ) (ws : List Write) → length (over c ws) ≡ length c
-length_over c [] = refl
-length_over c (w ∷ ws) = length-set (over c ws) w.item w.word ∙ length_over c ws
-
-pub over-append : (c : List ℕ) (xs ys : List Write) → over c (xs ++ ys) ≡ over (over c ys) xs
-over-append c [] ys = refl
-over-append c (x ∷ xs) ys = ap (λ d. set d x.item x.word) (over-append c xs ys)
+use Rattle.replicas.specs.Kept.{all_rising}
+pub use Rattle.replicas.specs.Undone.{length_over, over-append}
 
 pub laid-append : (c : List ℕ) (xs ys : List Write) → laid c (xs ++ ys) ≡ laid (laid c xs) ys
 laid-append c [] ys = refl

@@ -1,12 +1,12 @@
 -- Laws of records that stand for the sets of versions.
-use Rattle.std.proofs.Common.{◌≡◌, ℕ, zero, suc, ◌+◌, ◌-◌, ◌<◌, ◌≤◌, List, [], ◌∷◌, ◌++◌, map, length, get_or, take, drop, sym, refl, ap, ◌∙◌, ⊎_elim, add-zero, arith}
-use lib.Seq.{take-append-add, drop-append-add}
+use Rattle.std.proofs.Common.{◌≡◌, ℕ, zero, suc, ◌+◌, ◌-◌, ◌<◌, ◌≤◌, List, [], ◌∷◌, ◌++◌, map, length, take, drop, sym, refl, ap, ◌∙◌, ⊎_elim, add-zero, arith}
+use lib.Seq.{take-nil, take-append-add, drop-append-add}
 use Rattle.std.proofs.lemmas.Bool.{cond-true, cond-false, le-leb, lt-leb, cases_lt}
-use Rattle.std.proofs.lemmas.List.{length-append, append_assoc, append-nil, map-append, take_at, drop_at, get_or_append_left, get_or-append_right}
+use Rattle.std.proofs.lemmas.List.{length-append, append_assoc, append-nil, map-append, take_at, drop_at}
 use Rattle.entries.specs.declared.writes.Write.{Write}
-use Rattle.replicas.specs.declared.logs.Record.{Record}
+use Rattle.replicas.specs.declared.records.Record.{Record}
 use Rattle.replicas.specs.Overlay.{sizes, joined}
-use Rattle.replicas.specs.Records.{no_record, plain, marked, stamped, upto, cut}
+use Rattle.replicas.specs.Records.{plain, marked, stamped, upto, cut}
 
 -- ---- the records of one set
 
@@ -23,11 +23,6 @@ upto-marked : (to v : ℕ) (ws : List Write) (rs : List Record) → v ≤ to →
 upto-marked to v [] rs h = omega arith
 upto-marked to v (w ∷ ws) rs h = let m = upto-marked to v ws rs h in cond-true _ _ _ (le-leb v to h) ∙ omega arith
 
-version-marked : (v : ℕ) (ws : List Write) (k : ℕ) → k < length ws → (get_or (marked v ws) k no_record).version ≡ v
-version-marked v [] k h = absurd (omega arith)
-version-marked v (w ∷ ws) zero h = refl
-version-marked v (w ∷ ws) (suc k) h = version-marked v ws k (omega arith)
-
 -- ---- the records of several sets
 
 pub length-stamped : (b : ℕ) (ss : List (List Write)) → length (stamped b ss) ≡ sizes ss
@@ -38,33 +33,24 @@ pub plain-stamped : (b : ℕ) (ss : List (List Write)) → map plain (stamped b 
 plain-stamped b [] = refl
 plain-stamped b (s ∷ ss) = map-append plain (marked (b + 1) s) (stamped (b + 1) ss) ∙ rw (plain-marked (b + 1) s, plain-stamped (b + 1) ss)
 
--- every record is of a version above the base
-pub above-stamped : (b : ℕ) (ss : List (List Write)) (k : ℕ) → k < length (stamped b ss) → b < (get_or (stamped b ss) k no_record).version
-above-stamped b [] k h = absurd (omega arith)
-above-stamped b (s ∷ ss) k h =
-    let n = length_marked (b + 1) s in
-    let m = length-append (marked (b + 1) s) (stamped (b + 1) ss) in
-    ⊎_elim
-    (λ (l : k < length s).
-    rw (get_or_append_left (marked (b + 1) s) (stamped (b + 1) ss) no_record k (omega arith), version-marked (b + 1) s k l) (omega arith))
-    (λ (l : length s ≤ k).
-    let i = above-stamped (b + 1) ss (k - length s) (omega arith) in
-    rw (get_or-append_right (marked (b + 1) s) (stamped (b + 1) ss) (length s) k no_record n l) (omega arith))
-    (cases_lt k (length s))
-
 upto-none : (a b : ℕ) (ss : List (List Write)) → a ≤ b → upto a (stamped b ss) ≡ 0
 upto-none a b [] h = refl
 upto-none a b ([] ∷ ss) h = upto-none a (b + 1) ss (omega arith)
 upto-none a b ((w ∷ s) ∷ ss) h = cond-false _ _ _ (lt-leb (b + 1) a (omega arith))
 
--- the records up to a version are those of its set and of the sets before it
-pub upto-stamped : (b k : ℕ) (ss : List (List Write)) → upto (b + k) (stamped b ss) ≡ sizes (take k ss)
-upto-stamped b zero ss = upto-none (b + 0) b ss (omega arith)
-upto-stamped b (suc k) [] = refl
-upto-stamped b (suc k) (s ∷ ss) =
-    let e : (b + 1) + k ≡ b + suc k = omega arith in
-    upto-marked (b + suc k) (b + 1) s (stamped (b + 1) ss) (omega arith)
-    ∙ ap (λ n. length s + n) (ap (λ v. upto v (stamped (b + 1) ss)) (sym e) ∙ upto-stamped (b + 1) k ss)
+-- the records up to a version are those of the sets up to it: none below the base, all above the last
+pub upto-stamped : (b to : ℕ) (ss : List (List Write)) → upto to (stamped b ss) ≡ sizes (take (to - b) ss)
+upto-stamped b to [] = ap sizes (sym (take-nil (to - b)))
+upto-stamped b to (s ∷ ss) =
+    ⊎_elim
+    (λ (h : b < to).
+    let e : to - b ≡ suc (to - (b + 1)) = omega arith in
+    upto-marked to (b + 1) s (stamped (b + 1) ss) (omega arith) ∙ ap (λ n. length s + n) (upto-stamped (b + 1) to ss)
+    ∙ ap (λ n. sizes (take n (s ∷ ss))) (sym e))
+    (λ (h : to ≤ b).
+    let e : to - b ≡ 0 = omega arith in
+    upto-none to b (s ∷ ss) h ∙ ap (λ n. sizes (take n (s ∷ ss))) (sym e))
+    (cases_lt b to)
 
 pub take-stamped : (b k : ℕ) (ss : List (List Write)) → take (sizes (take k ss)) (stamped b ss) ≡ stamped b (take k ss)
 take-stamped b zero ss = refl

@@ -1,7 +1,10 @@
 pub mod Overlay
 pub mod Model
+pub mod Told
 pub mod Records
+pub mod Kept
 pub mod Logs
 pub mod Pages
 pub mod Undos
+pub mod Undone
 pub mod Laws

@@ -1,5 +1,6 @@
 -- Contents with writes laid over them.
-use Rattle.std.specs.Prelude.{ℕ, ◌+◌, Bool, false, cond, ◌||◌, List, [], ◌∷◌, ◌++◌, length, ◌==◌, nat_le, slice_index, slice_set}
+use Rattle.std.specs.Prelude.{ℕ, ◌+◌, Bool, cond, List, [], ◌∷◌, ◌++◌, length, ◌==◌, nat_le, slice_index, slice_set}
+use Rattle.std.specs.List.{list_any}
 use Rattle.entries.specs.declared.writes.Write.{Write}
 
 -- the contents with the writes laid over them; of two writes of one item the first counts
@@ -24,8 +25,7 @@ joined (s ∷ ss) = s ++ joined ss
 
 -- some write is of an item that is not below the limit
 abbrev pub names_beyond : ℕ → List Write → Bool
-names_beyond limit [] = false
-names_beyond limit (w ∷ ws) = nat_le limit w.item || names_beyond limit ws
+names_beyond limit ws = list_any (λ w. nat_le limit w.item) ws
 
 -- the contents with the writes laid over them one by one; of two writes of one item the last counts
 abbrev pub laid : List ℕ → List Write → List ℕ

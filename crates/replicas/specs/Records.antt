@@ -1,8 +1,8 @@
 -- The sets that a list of records stands for.
-use Rattle.std.specs.Prelude.{ℕ, zero, suc, ◌+◌, ◌<◌, ◌≤◌, Bool, true, ◌&&◌, leb, List, [], ◌∷◌, ◌++◌, map, length, take, drop, nat_le, slice_index_or}
+use Rattle.std.specs.Prelude.{ℕ, zero, suc, ◌+◌, Bool, true, ◌&&◌, leb, List, [], ◌∷◌, ◌++◌, map, take, drop, nat_le}
 use Rattle.std.specs.List.{prefix_len}
 use Rattle.entries.specs.declared.writes.Write.{Write}
-use Rattle.replicas.specs.declared.logs.Record.{Record}
+use Rattle.replicas.specs.declared.records.Record.{Record}
 
 abbrev pub no_record : Record
 no_record = record { item = 0; version = 0; word = 0 }
@@ -34,7 +34,3 @@ cut base (suc n) rs = map plain (take (upto (base + 1) rs) rs) ∷ cut (base + 1
 abbrev pub ordered : ℕ → ℕ → List Record → Bool
 ordered low high [] = true
 ordered low high (r ∷ rs) = nat_le low r.version && (nat_le r.version high && ordered r.version high rs)
-
--- every record of a version up to `to` comes before all others
-abbrev pub Split : ℕ → List Record → Type 0
-Split to rs = (k : ℕ) → k < length rs → (slice_index_or rs k no_record).version ≤ to → k < upto to rs

@@ -1,17 +1,38 @@
 // Page replicas: the page holds the contents at the base.
-ghost use Rattle.std.specs.Prelude.{◌≡◌, true};
-ghost use Rattle.replicas.specs.Logs.{Kept, sets_of};
-ghost use Rattle.replicas.specs.Pages.{all_rising};
+ghost use Rattle.std.specs.Prelude.{refl};
+ghost use Rattle.replicas.specs.Pages.{page_model, page-backs};
 
-use crate::logs::{Log, Page};
-
-pub mod calls;
+use crate::keeping::Keeping;
+use crate::log_replica::LogReplica;
+use crate::replica::Refusal;
+use entries::WriteList;
 
 // The contents at the base, and a record for each later write.
-#[derive(Drop)]
-pub struct PageReplica<'a> {
-    page: Page<'a>,
-    log: Log<'a>,
-    ghost kept: { Kept log },
-    ghost rising: { all_rising (sets_of log) ≡ true },
+pub type PageReplica<'a> = LogReplica<'a, AtBase>;
+
+// The page holds the contents at the base, and the records have the words that were written.
+pub struct AtBase;
+
+impl Keeping for AtBase {
+    ghost model = { λ r. page_model r.page.now r.log };
+
+    ghost shown = { λ m. m.contents };
+
+    ghost backs = { λ r. page-backs r.page.now r.log };
+
+    ghost shows = { λ r. refl };
+
+    fn word(replica: &LogReplica<AtBase>, at: u32, item: usize) -> u64 {
+        replica.log.newest_word(at, item, replica.page[item])
+    }
+
+    fn take(replica: &mut LogReplica<AtBase>, set: &WriteList) -> Result<u32, Refusal> {
+        let items = replica.page.len();
+        replica.log.append(set, items)
+    }
+
+    fn forget(replica: &mut LogReplica<AtBase>, to: u32) {
+        replica.log.lay(replica.page, to);
+        replica.log.forget(to);
+    }
 }

@@ -5,8 +5,10 @@ ghost use Rattle.replicas.specs.Model.{ReplicaModel, version_of, used_of, items_
 
 use entries::WriteList;
 
+mod told;
+
 // Why a call on a replica or on a bank was refused.
-#[derive(Clone, Copy)]
+#[derive(Clone, Copy, PartialEq, Eq, Debug)]
 pub enum Refusal {
     // an opening word after the first version
     InUse,
@@ -72,7 +74,7 @@ pub trait Replica {
         ensures { result ≡ items_of (means self.now) };
 }
 
-// A replica that is lent.
+// A replica that is lent: a caller that keeps it lends it, so each call is handed on.
 impl<'a, R: Replica> Replica for &'a mut R {
     ghost means = { λ r. R.Replica.means r.now };
 

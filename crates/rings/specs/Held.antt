@@ -10,6 +10,10 @@ turned first cells = drop first cells ++ take first cells
 abbrev pub placed : ℕ → ℕ → ℕ → ℕ
 placed first size i = cond (nat_lt i (size - first)) (first + i) (i - (size - first))
 
+-- the items at the places from `from` up to `to`, fewer where the list has fewer
+abbrev pub between : {T : Type 0} → ℕ → ℕ → List T → List T
+between from to xs = drop from (take to xs)
+
 -- how many items there is room for
 abbrev pub size : {T : Type 0} → Ring T → ℕ
 size r = length r.cells.now

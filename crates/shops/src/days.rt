@@ -16,17 +16,6 @@ pub struct Day {
     pub sold_down_to: i32,
 }
 
-// A call that has no value.
-fn call(letter: u8, site: u32, slot: u32, arg: u32) -> Call<Count> {
-    Call {
-        letter,
-        site,
-        slot,
-        arg,
-        value: Count::new(0),
-    }
-}
-
 // Two sites sell from one shelf: the first sale is filed, the second is turned away, and the second site then sees the first.
 pub fn one_day<L: Ledger, B: Bank>(parts: Parts<L, B>) -> (Parts<L, B>, Day) {
     let mut layout: Layout<Count, L, B> = Layout::new(parts);
@@ -40,11 +29,14 @@ pub fn one_day<L: Ledger, B: Bank>(parts: Parts<L, B>) -> (Parts<L, B>, Day) {
     let filed = book.file(0, 0);
     let second = book.file(1, 0);
     let delivered = book.deliver(1);
-    let calls = [
-        call(b'B', 1, 3, 0),
-        call(b'R', 1, 3, 2),
-        call(b'F', 1, 3, 0),
-    ];
+    let call = |letter, arg| Call {
+        letter,
+        site: 1,
+        slot: 3,
+        arg,
+        value: Count::new(0),
+    };
+    let calls = [call(b'B', 0), call(b'R', 2), call(b'F', 0)];
     let mut answers = [Answer {
         code: Code::NoSuchLetter,
         number: 0,

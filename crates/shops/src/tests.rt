@@ -3,21 +3,21 @@ use crate::days::{Day, one_day};
 use banks::{Alone, Beside};
 use book::Parts;
 use entries::WriteList;
-use ledgers::{IndexLedger, Ledger, ScanLedger};
+use ledgers::{Finder, Index, LogLedger, Scan};
 use replicas::{PageReplica, Record, UndoReplica};
 
-// A day, and another on a book that is laid out from the parts of the first.
-fn two_days<L: Ledger>(ledger: &mut L) -> [Day; 2] {
+// A day over a ledger that finds conflicts in one way, and another on a book that is laid out from the parts of the first.
+fn two_days<F: Finder>() -> [Day; 2] {
+    let mut entries = [WriteList::empty(); 4];
+    let ledger = LogLedger::<F>::new(&mut entries);
     let mut page = [0u64; 4];
     let mut records = [Record::BLANK; 5];
-    let mut first = PageReplica::new(&mut page, &mut records);
     let mut other = [0u64; 6];
     let mut more = [Record::BLANK; 5];
-    let mut second = UndoReplica::new(&mut other, &mut more);
     let bank = Beside {
-        replica: &mut first,
+        replica: PageReplica::new(&mut page, &mut records),
         rest: Alone {
-            replica: &mut second,
+            replica: UndoReplica::new(&mut other, &mut more),
         },
     };
     let (parts, one) = one_day(Parts { ledger, bank });
@@ -38,14 +38,10 @@ const EXPECTED: Day = Day {
 
 #[test]
 fn scan_ledger(rt: HostRuntime) {
-    let mut entries = [WriteList::empty(); 4];
-    let mut ledger = ScanLedger::new(&mut entries);
-    assert_eq!(rt; two_days(&mut ledger), [EXPECTED; 2]);
+    assert_eq!(rt; two_days::<Scan>(), [EXPECTED; 2]);
 }
 
 #[test]
 fn index_ledger(rt: HostRuntime) {
-    let mut entries = [WriteList::empty(); 4];
-    let mut ledger = IndexLedger::new(&mut entries);
-    assert_eq!(rt; two_days(&mut ledger), [EXPECTED; 2]);
+    assert_eq!(rt; two_days::<Index>(), [EXPECTED; 2]);
 }

@@ -1,4 +1,2 @@
-pub mod Openings
-pub mod Places
 pub mod Rows
 pub mod Standing

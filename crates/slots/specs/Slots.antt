@@ -1,5 +1,5 @@
 -- What a slot means, and what each call on it answers and leaves.
-use Rattle.std.specs.Prelude.{ℕ, min, Bool, true, false, cond, ◌||◌, List, [], length, replicate, Some, None, Ok, Err, Option, Result, ◌==◌, slice_set}
+use Rattle.std.specs.Prelude.{ℕ, Bool, true, false, cond, ◌||◌, List, [], length, replicate, Some, None, Ok, Err, Option, Result, ◌==◌, slice_set}
 use Rattle.entries.specs.declared.writes.Write.{Write}
 use Rattle.entries.specs.declared.lists.ListFull.{ListFull}
 use Rattle.entries.specs.Writes.{word_of, put_in}
@@ -29,13 +29,13 @@ number_of s = state_number (model_by s [] [])
 abbrev pub no_items : List Bool
 no_items = replicate 256 false
 
--- what a slot answers to a call's letter: the number that it goes by, or that of its state.
+-- what a slot answers to a call's letter: the number that it goes by, or its state.
 -- B is 66, R 82, W 87, F 70, X 88, C 67
-abbrev pub admit_answer : ℕ → ℕ → SlotModel → Result ℕ ℕ
-admit_answer letter version idle = cond (letter == 66) (Ok version) (Err (state_number idle))
+abbrev pub admit_answer : ℕ → ℕ → SlotModel → Result ℕ State
+admit_answer letter version idle = cond (letter == 66) (Ok version) (Err Idle)
 admit_answer letter version (opened s ws items) =
-    cond (letter == 82 || (letter == 87 || (letter == 70 || letter == 88))) (Ok s) (Err (state_number (opened s ws items)))
-admit_answer letter version (filed n) = cond (letter == 67) (Ok n) (Err (state_number (filed n)))
+    cond (letter == 82 || (letter == 87 || (letter == 70 || letter == 88))) (Ok s) (Err (Open s))
+admit_answer letter version (filed n) = cond (letter == 67) (Ok n) (Err (Filed n))
 
 -- the slot that a call's letter leaves: B opens an idle one at the version, X ends an open one
 abbrev pub after_admit : ℕ → ℕ → SlotModel → SlotModel
@@ -90,9 +90,3 @@ abbrev pub opens : SlotModel → ℕ
 opens idle = 0
 opens (opened s ws items) = 1
 opens (filed n) = 0
-
--- the smaller of two numbers, where there are such
-abbrev pub smaller : Option ℕ → Option ℕ → Option ℕ
-smaller None o = o
-smaller (Some s) None = Some s
-smaller (Some s) (Some t) = Some (min s t)

@@ -8,7 +8,8 @@ ghost use Rattle.slots.specs.Slots.{slot_model, admit_answer, after_admit, own_w
 
 use entries::{ItemSet, ListFull, WriteList};
 
-#[derive(Clone, Copy)]
+// The state of a slot's transaction.
+#[derive(Clone, Copy, PartialEq, Eq, Debug)]
 pub enum State {
     Idle,
     // at a snapshot
@@ -18,8 +19,8 @@ pub enum State {
 }
 
 impl State {
-    // The number that a refusal tells.
-    fn number(self) -> u64
+    // The number that stands for the state in text. A `match`, since two of the cases carry a number of their own.
+    pub fn number(self) -> u64
         ensures { result ≡ number_of self }
     {
         match self {
@@ -30,7 +31,8 @@ impl State {
     }
 }
 
-// What an open transaction wrote and read; the two say nothing in another state.
+// The state beside what an open transaction wrote and read, as the project asks for a slot; the two say nothing in another
+// state, so a derived equality would tell apart slots that mean the same.
 #[derive(Clone, Copy)]
 pub struct Slot {
     state: State,
@@ -50,8 +52,9 @@ impl Slot {
         }
     }
 
-    // Takes a call by its letter, or answers the number of the slot's state.
-    pub(crate) fn admit(&mut self, letter: char, version: u32) -> Result<u32, u64>
+    // Takes a call by its letter, or refuses it with the state that the slot is in. The letter is the `char` of the text, and
+    // state and letter choose among literal cases: the project asks for this form.
+    pub(crate) fn admit(&mut self, letter: char, version: u32) -> Result<u32, State>
         ensures answer { result ≡ admit_answer letter version (slot_model self.old) }
         ensures after { slot_model self.new ≡ after_admit letter version (slot_model self.old) }
     {
@@ -68,7 +71,7 @@ impl Slot {
                 Ok(snapshot)
             }
             (State::Filed(number), 'C') => Ok(number),
-            (state, _) => Err(state.number()),
+            (state, _) => Err(state),
         }
     }
 

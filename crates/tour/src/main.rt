@@ -7,7 +7,7 @@ mod sites;
 
 use banks::{Alone, Beside};
 use entries::WriteList;
-use ledgers::{IndexLedger, ScanLedger};
+use ledgers::{Finder, Index, LogLedger, Scan};
 use replicas::{PageReplica, Record, UndoReplica};
 use std::io;
 
@@ -15,35 +15,26 @@ use std::io;
 fn two_sites(rt: &HostRuntime) -> io::Result<()> {
     let mut page = [0u64; 4];
     let mut records = [Record::BLANK; 5];
-    let mut first = PageReplica::new(&mut page, &mut records);
     let mut other = [0u64; 6];
     let mut more = [Record::BLANK; 5];
-    let mut second = UndoReplica::new(&mut other, &mut more);
     let mut bank = Beside {
-        replica: &mut first,
+        replica: PageReplica::new(&mut page, &mut records),
         rest: Alone {
-            replica: &mut second,
+            replica: UndoReplica::new(&mut other, &mut more),
         },
     };
     sites::tour(rt, &mut bank)
 }
 
-// Four filings before a ledger that is searched.
-fn by_search(rt: &HostRuntime) -> io::Result<()> {
+// Four filings before a ledger that finds conflicts in one way.
+fn before<F: Finder>(rt: &HostRuntime, name: &str) -> io::Result<()> {
     let mut entries = [WriteList::empty(); 4];
-    let mut ledger = ScanLedger::new(&mut entries);
-    filings::four(rt, "a ledger that is searched", &mut ledger)
-}
-
-// The same filings before a ledger with an index.
-fn by_index(rt: &HostRuntime) -> io::Result<()> {
-    let mut entries = [WriteList::empty(); 4];
-    let mut ledger = IndexLedger::new(&mut entries);
-    filings::four(rt, "a ledger with an index", &mut ledger)
+    let mut ledger = LogLedger::<F>::new(&mut entries);
+    filings::four(rt, name, &mut ledger)
 }
 
 fn main(rt: HostRuntime) -> io::Result<()> {
     two_sites(&rt)?;
-    by_search(&rt)?;
-    by_index(&rt)
+    before::<Scan>(&rt, "a ledger that is searched")?;
+    before::<Index>(&rt, "a ledger with an index")
 }

@@ -2,34 +2,17 @@
 use crate::sets::{set_of, word};
 use banks::Bank;
 use entries::{Count, Kind, WriteList};
-use replicas::Refusal;
 use std::io;
-
-// Why a call was refused, for a person.
-fn reason(refusal: Refusal) -> &'static str {
-    match refusal {
-        Refusal::InUse => "the replica is in use: opening words come before the first version",
-        Refusal::NotKept => "that version is not kept here",
-        Refusal::NoSuchItem => "there is no such item",
-        Refusal::NoWrites => "a set without writes is no version",
-        Refusal::NoRoom => "there are not enough records left: forget old versions first",
-        Refusal::LastVersion => "no version comes after 999,999",
-        Refusal::NoSuchSite => "there is no such site",
-    }
-}
 
 // Gives an item its opening count at both sites.
 fn open<B: Bank>(rt: &HostRuntime, bank: &mut B, item: usize, number: i32) -> io::Result<()> {
     match bank.open_word(item, word(number)) {
         Ok(()) => println!(rt; "opening count of item {item}: {number}"),
-        Err(refusal) => {
-            let why = reason(refusal);
-            println!(rt; "opening count of item {item}: refused, {why}")
-        }
+        Err(refusal) => println!(rt; "opening count of item {item}: refused, {refusal}"),
     }
 }
 
-// Hands a write set to each site.
+// Hands a write set to each site. Here and below a site is its number, and a bank has no list of them to go through.
 fn deliver<B: Bank>(rt: &HostRuntime, bank: &mut B, set: &WriteList) -> io::Result<()> {
     let size = set.len();
     for site in 0..bank.sites() {
@@ -37,10 +20,7 @@ fn deliver<B: Bank>(rt: &HostRuntime, bank: &mut B, set: &WriteList) -> io::Resu
             Ok(version) => println!(rt;
                 "  site {site} takes a set of {size} as version {version}"
             )?,
-            Err(refusal) => {
-                let why = reason(refusal);
-                println!(rt; "  site {site} refuses a set of {size}: {why}")?;
-            }
+            Err(refusal) => println!(rt; "  site {site} refuses a set of {size}: {refusal}")?,
         }
     }
     Ok(())
@@ -59,10 +39,7 @@ fn show<B: Bank>(
             let number = Count::decode(word).number;
             println!(rt; "  site {site} shows {number}")
         }
-        Err(refusal) => {
-            let why = reason(refusal);
-            println!(rt; "  site {site} refuses: {why}")
-        }
+        Err(refusal) => println!(rt; "  site {site} refuses: {refusal}"),
     }
 }
 
@@ -79,10 +56,7 @@ fn look_up<B: Bank>(rt: &HostRuntime, bank: &B, item: usize, version: u32) -> io
 fn forget<B: Bank>(rt: &HostRuntime, bank: &mut B, site: usize, to: u32) -> io::Result<()> {
     match bank.forget(site, to) {
         Ok(()) => println!(rt; "site {site} forgets what lies below version {to}"),
-        Err(refusal) => {
-            let why = reason(refusal);
-            println!(rt; "site {site} does not forget to version {to}: {why}")
-        }
+        Err(refusal) => println!(rt; "site {site} does not forget to version {to}: {refusal}"),
     }
 }
 

@@ -21,7 +21,7 @@ impl ItemSet {
     pub fn contains(&self, item: u8) -> bool
         ensures { result ≡ has (flags_of self.now) item }
     {
-        let at = item as usize;
+        let at = usize::from(item);
         self.flags[at]
     }
 
@@ -29,7 +29,7 @@ impl ItemSet {
     pub fn insert(&mut self, item: u8)
         ensures { flags_of self.new ≡ slice_set (flags_of self.old) item true }
     {
-        self.flags[item as usize] = true;
+        self.flags[usize::from(item)] = true;
     }
 
     // The items of the set and those that the list writes.
@@ -37,9 +37,9 @@ impl ItemSet {
         ensures after { flags_of result ≡ with_items (flags_of self.now) (writes list.now) }
         ensures members { (i : ℕ) → i < 256 → has (flags_of result) i ≡ (has (flags_of self.now) i || names (writes list.now) i) }
     {
+        // a loop: `fold` would carry the set through a closure that changes it, which is no plainer
         let mut items = *self;
-        let writes = list.as_slice();
-        for w in writes {
+        for w in list.as_slice() {
             items.insert(w.item);
         }
         items

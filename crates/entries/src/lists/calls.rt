@@ -4,10 +4,8 @@ ghost use Rattle.std.specs.List.{insert};
 ghost use Rattle.entries.specs.Writes.{word_of, Searched};
 ghost use Rattle.entries.specs.Lists.{writes, put_answer, after_put};
 
-use super::{ListFull, WriteList};
+use super::{ListFull, MOST, WriteList};
 use crate::writes::Write;
-
-const MOST: usize = 8;
 
 // Puts a write at a place of the first `len`, and moves those from there on up by one.
 fn insert_at(slots: &mut [Write], len: usize, at: usize, write: Write)
@@ -16,7 +14,7 @@ fn insert_at(slots: &mut [Write], len: usize, at: usize, write: Write)
     ensures { take (len + 1) slots.new ≡ insert (take len slots.old) at write }
 {
     slots[len] = write;
-    slots[at..len + 1].rotate_right(1);
+    slots[at..=len].rotate_right(1);
 }
 
 impl WriteList {
@@ -26,7 +24,7 @@ impl WriteList {
     {
         WriteList {
             len: 0,
-            slots: [Write { item: 0, word: 0 }; 8],
+            slots: [Write { item: 0, word: 0 }; MOST],
         }
     }
 
@@ -41,36 +39,21 @@ impl WriteList {
     pub fn as_slice(&self) -> &[Write]
         ensures { result.now ≡ writes self.now }
     {
-        &self.slots[0..self.len]
+        &self.slots[..self.len]
     }
 
     // The word that the list has for the item.
     pub fn get(&self, item: u8) -> Option<u64>
         ensures { result ≡ word_of (writes self.now) item }
     {
-        let writes = self.as_slice();
-        for w in writes {
-            if w.item == item {
-                return Some(w.word);
-            }
-        }
-        None
+        self.search(item).ok().map(|at| self.slots[at].word)
     }
 
-    // Where the item's write stands, or where it would stand.
+    // Where the item's write stands, or where it would stand, as the library's search answers it.
     fn search(&self, item: u8) -> Result<usize, usize>
         ensures { Searched (writes self.now) item result }
     {
-        let writes = self.as_slice();
-        for (at, w) in writes.iter().enumerate() {
-            if w.item == item {
-                return Ok(at);
-            }
-            if w.item > item {
-                return Err(at);
-            }
-        }
-        Err(self.len)
+        self.as_slice().binary_search_by_key(&item, |w| w.item)
     }
 
     // Gives the item the word, in place of an earlier one; a ninth item is refused, and the list stays.

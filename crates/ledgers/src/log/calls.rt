@@ -1,13 +1,13 @@
 // The calls on a log, each by the ledger that it stands for.
-ghost use Rattle.std.specs.Prelude.{◌≡◌, ◌<◌, ◌≤◌, length};
-ghost use Rattle.rings.specs.Held.{size};
+ghost use Rattle.std.specs.Prelude.{◌≡◌, length};
+ghost use Rattle.std.specs.Option.{option_map};
 ghost use Rattle.entries.specs.Lists.{writes};
-ghost use Rattle.ledgers.specs.Model.{head_of, cleared, add_answer, after_add, fetched, trimmed};
-ghost use Rattle.ledgers.specs.Logs.{log_model, Kept, fresh};
+ghost use Rattle.ledgers.specs.Model.{head_of, cleared, add_answer, after_add, entry_of, fetched, trimmed};
+ghost use Rattle.ledgers.specs.Logs.{log_model, cells_of, fresh};
 
 use super::Log;
 use crate::ledger::LedgerRefusal;
-use entries::WriteList;
+use entries::{Write, WriteList};
 use rings::ring::Ring;
 
 const LAST_VERSION: u32 = 999999;
@@ -15,8 +15,7 @@ const LAST_VERSION: u32 = 999999;
 impl<'a> Log<'a> {
     // A log with no sets, at floor 0.
     pub(crate) fn new(cells: &'a mut [WriteList]) -> Log<'a>
-        ensures kept { Kept result }
-        ensures made { log_model result ≡ fresh (length cells.old) }
+        ensures { log_model result ≡ fresh (length cells.old) }
     {
         Log {
             ring: Ring::new(cells),
@@ -26,7 +25,7 @@ impl<'a> Log<'a> {
 
     // The cells again.
     pub(crate) fn into_cells(self) -> &'a mut [WriteList]
-        ensures { length result.now ≡ size self.entry.ring }
+        ensures { result.now ≡ cells_of self.entry }
     {
         let Log { ring, floor: _ } = self;
         ring.into_cells()
@@ -34,8 +33,7 @@ impl<'a> Log<'a> {
 
     // Lets every set go, and begins at floor 0 again.
     pub(crate) fn clear(&mut self)
-        ensures kept { Kept self.new }
-        ensures after { log_model self.new ≡ cleared (log_model self.old) }
+        ensures { log_model self.new ≡ cleared (log_model self.old) }
     {
         self.ring.clear();
         self.floor = 0;
@@ -43,40 +41,40 @@ impl<'a> Log<'a> {
 
     // The newest version.
     pub(crate) fn head(&self) -> u32
-        requires { Kept self.now }
         ensures { result ≡ head_of (log_model self.now) }
     {
         self.floor + self.ring.len() as u32
     }
 
-    // The set of a version above the floor and up to the head.
-    pub(crate) fn entry(&self, version: u32) -> &WriteList
-        requires above { self.now.floor < version }
-        requires upto { version ≤ head_of (log_model self.now) }
-        ensures { writes result.now ≡ fetched (log_model self.now) version }
+    // The list of a version above the floor and up to the head; no other has one.
+    fn entry(&self, version: u32) -> Option<&WriteList>
+        ensures { option_map (λ l. writes l.now) result ≡ entry_of (log_model self.now) version }
     {
-        match self.ring.get((version - self.floor - 1) as usize) {
-            Some(list) => list,
-            None => unreachable(),
+        let place = version.checked_sub(self.floor + 1)?;
+        self.ring.get(place as usize)
+    }
+
+    // The set of a version, where it lies; empty where the log has none.
+    pub(crate) fn set(&self, version: u32) -> &[Write]
+        ensures { result.now ≡ fetched (log_model self.now) version }
+    {
+        match self.entry(version) {
+            Some(list) => list.as_slice(),
+            None => &[],
         }
     }
 
-    // The set of a version, empty where the log has none.
+    // The list of a version, empty where the log has none.
     pub(crate) fn fetch(&self, version: u32) -> WriteList
-        requires { Kept self.now }
         ensures { writes result ≡ fetched (log_model self.now) version }
     {
-        if self.floor < version && version <= self.head() {
-            *self.entry(version)
-        } else {
-            WriteList::empty()
-        }
+        self.entry(version)
+            .copied()
+            .unwrap_or_else(WriteList::empty)
     }
 
     // One more set, of the version after the head.
     pub(crate) fn add(&mut self, list: &WriteList) -> Result<u32, LedgerRefusal>
-        requires { Kept self.old }
-        ensures kept { Kept self.new }
         ensures answer { result ≡ add_answer (log_model self.old) (writes list.now) }
         ensures after { log_model self.new ≡ after_add (writes list.now) (log_model self.old) }
     {
@@ -96,9 +94,7 @@ impl<'a> Log<'a> {
 
     // Lets the sets of the versions up to `to` go.
     pub(crate) fn trim(&mut self, to: u32)
-        requires { Kept self.old }
-        ensures kept { Kept self.new }
-        ensures after { log_model self.new ≡ trimmed to (log_model self.old) }
+        ensures { log_model self.new ≡ trimmed to (log_model self.old) }
     {
         let floor = to.min(self.head());
         if floor > self.floor {

@@ -1,80 +1,95 @@
-// Loops over the records of a ring.
-ghost use Rattle.std.specs.Prelude.{◌≡◌, ◌+◌, ◌≤◌, false, ◌++◌, map, length, take, drop, slice_index_or};
+// Passes over the records of a ring and the writes of a set.
+ghost use Rattle.std.specs.Prelude.{◌≡◌, ◌+◌, ◌≤◌, false, ◌==◌, ◌++◌, map, length, take, drop, reverse};
+ghost use Rattle.std.specs.List.{find};
+ghost use Rattle.std.specs.Option.{option_map};
+ghost use Rattle.std.specs.List.Sorted.{IsNonDecreasingBy};
 ghost use Rattle.rings.specs.Held.{held, size};
 ghost use Rattle.replicas.specs.Overlay.{names_beyond, newest_word_of, oldest_word_of, laid, replaced};
-ghost use Rattle.replicas.specs.Records.{no_record, plain, marked, upto, Split};
+ghost use Rattle.replicas.specs.Records.{plain, marked, upto};
 
-use super::Record;
+use crate::records::Record;
 use entries::Write;
 use rings::ring::Ring;
 
-// The record at a place, 0 for the oldest.
-fn record_at(ring: &Ring<Record>, i: usize) -> Record
-    ensures { result ≡ slice_index_or (held ring.now) i no_record }
+// How many of these records are of versions up to `to`, by halving: they come before all others.
+fn end_in(records: &[Record], to: u32) -> usize
+    requires { IsNonDecreasingBy (λ r. r.version) records.now }
+    ensures { result ≡ upto to records.now }
 {
-    match ring.get(i) {
-        Some(record) => *record,
-        None => Record::BLANK,
+    records.partition_point(|r| r.version <= to)
+}
+
+// The newest of these records that writes the item. The two directions have a chain each: one function over any iterator
+// would have to speak of the runs of an iterator, and not of a list.
+fn newest_of<'r>(older: &'r [Record], newer: &'r [Record], item: usize) -> Option<&'r Record>
+    ensures { option_map (λ r. r.now) result ≡ find (λ r. r.item == item) (reverse newer.now ++ reverse older.now) }
+{
+    newer
+        .iter()
+        .rev()
+        .chain(older.iter().rev())
+        .find(|r| usize::from(r.item) == item)
+}
+
+// The oldest of these records that writes the item.
+fn oldest_of<'r>(older: &'r [Record], newer: &'r [Record], item: usize) -> Option<&'r Record>
+    ensures { option_map (λ r. r.now) result ≡ find (λ r. r.item == item) (older.now ++ newer.now) }
+{
+    older
+        .iter()
+        .chain(newer.iter())
+        .find(|r| usize::from(r.item) == item)
+}
+
+// Lays the words of these records over the page, oldest first.
+fn lay(page: &mut [u64], records: &[Record])
+    ensures { page.new ≡ laid page.old (map plain records.now) }
+{
+    for record in records {
+        let item = usize::from(record.item);
+        if item < page.len() {
+            page[item] = record.word;
+        }
     }
 }
 
-// How many records are of versions up to `to`, by halving: they come before all others.
+// How many records are of versions up to `to`: they come before all others.
 pub(crate) fn end_of(ring: &Ring<Record>, to: u32) -> usize
-    requires { Split to (held ring.now) }
+    requires { IsNonDecreasingBy (λ r. r.version) (held ring.now) }
     ensures { result ≡ upto to (held ring.now) }
 {
-    let mut low: usize = 0;
-    let mut high = ring.len();
-    while low < high {
-        let middle = low + (high - low) / 2;
-        if record_at(ring, middle).version <= to {
-            low = middle + 1;
-        } else {
-            high = middle;
-        }
+    let (older, newer) = ring.range(0, ring.len());
+    let end = end_in(older, to);
+    if end < older.len() {
+        end
+    } else {
+        end + end_in(newer, to)
     }
-    low
 }
 
 // The word of the newest of the first `end` records that writes the item, or `word`.
 pub(crate) fn newest_word(ring: &Ring<Record>, end: usize, item: usize, word: u64) -> u64
-    requires { end ≤ length (held ring.now) }
     ensures { result ≡ newest_word_of (map plain (take end (held ring.now))) item word }
 {
-    for i in (0..end).rev() {
-        let record = record_at(ring, i);
-        if record.item as usize == item {
-            return record.word;
-        }
-    }
-    word
+    let (older, newer) = ring.range(0, end);
+    newest_of(older, newer, item).map_or(word, |r| r.word)
 }
 
 // The word of the oldest of the records from `start` on that writes the item, or `word`.
 pub(crate) fn oldest_word(ring: &Ring<Record>, start: usize, item: usize, word: u64) -> u64
     ensures { result ≡ oldest_word_of (map plain (drop start (held ring.now))) item word }
 {
-    for i in start..ring.len() {
-        let record = record_at(ring, i);
-        if record.item as usize == item {
-            return record.word;
-        }
-    }
-    word
+    let (older, newer) = ring.range(start, ring.len());
+    oldest_of(older, newer, item).map_or(word, |r| r.word)
 }
 
 // Lays the words of the first `end` records over the page, oldest first.
 pub(crate) fn lay_over(page: &mut [u64], ring: &Ring<Record>, end: usize)
-    requires { end ≤ length (held ring.now) }
     ensures { page.new ≡ laid page.old (map plain (take end (held ring.now))) }
 {
-    for i in 0..end {
-        let record = record_at(ring, i);
-        let item = record.item as usize;
-        if item < page.len() {
-            page[item] = record.word;
-        }
-    }
+    let (older, newer) = ring.range(0, end);
+    lay(page, older);
+    lay(page, newer);
 }
 
 // Puts the records of a version's set after the others.
@@ -101,7 +116,7 @@ pub(crate) fn exchange(page: &mut [u64], ring: &mut Ring<Record>, version: u32, 
     ensures room { size ring.new ≡ size ring.old }
 {
     for w in set {
-        let item = w.item as usize;
+        let item = usize::from(w.item);
         let _ = ring.push(Record {
             item: w.item,
             version,
@@ -115,10 +130,5 @@ pub(crate) fn exchange(page: &mut [u64], ring: &mut Ring<Record>, version: u32, 
 pub(crate) fn names_past(set: &[Write], limit: usize) -> bool
     ensures { result ≡ names_beyond limit set.now }
 {
-    for w in set {
-        if w.item as usize >= limit {
-            return true;
-        }
-    }
-    false
+    set.iter().any(|w| usize::from(w.item) >= limit)
 }

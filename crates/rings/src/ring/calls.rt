@@ -1,26 +1,25 @@
 // The calls on a ring, each by the list of items that it holds.
-ghost use Rattle.std.specs.Prelude.{◌≡◌, ◌<◌, ◌≤◌, [], length, drop, slice_set};
+ghost use Rattle.std.specs.Prelude.{◌≡◌, ◌<◌, ◌≤◌, [], ◌++◌, length, drop, slice_set};
 ghost use Rattle.std.specs.Option.{option_map};
 ghost use Rattle.std.specs.List.{slice_get};
-ghost use Rattle.rings.specs.Held.{placed, held, size, pushed, push_answer};
+ghost use Rattle.rings.specs.Held.{placed, between, held, size, pushed, push_answer};
 
 use super::Ring;
 
 // Where the item at place `i` lies, if the first lies at `first` of `size` cells.
 fn place(first: usize, size: usize, i: usize) -> usize
-    requires { i ≤ size }
     ensures { result ≡ placed first size i }
 {
     let tail = size.saturating_sub(first);
     if i < tail { first + i } else { i - tail }
 }
 
-// Writes an item into one cell.
-fn store<T: Copy>(cells: &mut [T], i: usize, x: T)
-    requires { i < length cells.old }
-    ensures { cells.new ≡ slice_set cells.old i x }
+// The items of a slice at the places from `from` up to `to`, fewer where it is shorter.
+fn within<T>(items: &[T], from: usize, to: usize) -> &[T]
+    ensures { result.now ≡ between from to items.now }
 {
-    cells[i] = x;
+    let end = to.min(items.len());
+    &items[from.min(end)..end]
 }
 
 impl<'a, T: Copy> Ring<'a, T> {
@@ -40,11 +39,7 @@ impl<'a, T: Copy> Ring<'a, T> {
     pub fn into_cells(self) -> &'a mut [T]
         ensures { result.now ≡ self.entry.cells.now }
     {
-        let Ring {
-            cells,
-            first: _,
-            len: _,
-        } = self;
+        let Ring { cells, .. } = self;
         cells
     }
 
@@ -70,8 +65,20 @@ impl<'a, T: Copy> Ring<'a, T> {
             return None;
         }
         let at = place(self.first, self.cells.len(), i);
-        let cells = &*self.cells;
-        Some(&cells[at])
+        self.cells.get(at)
+    }
+
+    // The items at the places from `from` up to `to`, fewer where the ring has fewer: the older part, then the newer.
+    pub fn range(&self, from: usize, to: usize) -> (&[T], &[T])
+        ensures { result.0.now ++ result.1.now ≡ between from to (held self.now) }
+    {
+        let to = to.min(self.len);
+        let (newer, older) = self.cells.split_at(self.first.min(self.cells.len()));
+        let rest = older.len();
+        (
+            within(older, from, to),
+            within(newer, from.saturating_sub(rest), to.saturating_sub(rest)),
+        )
     }
 
     // One more item, after the newest; where there is no room it comes back, and the ring stays.
@@ -85,7 +92,7 @@ impl<'a, T: Copy> Ring<'a, T> {
             return Err(item);
         }
         let at = place(self.first, self.cells.len(), len);
-        store(self.cells, at, item);
+        self.cells[at] = item;
         self.len = len + 1;
         Ok(())
     }

@@ -1,11 +1,7 @@
 use Rattle.std.proofs.Common.{◌∙◌, arith}
-use Rattle.replicas.specs.Model.{cleared}
-use Rattle.banks.proofs.Turns.{change-more, change-end}
+use Rattle.banks.proofs.Turns.{change-more}
 use Rattle.banks.proofs.bank.Bank.clear.Goals as goal
 
 pub loop-site-preserved : goal.loop-site-preserved
 loop-site-preserved g c =
     (c.loop-site.invariant.0, c.clear_at.ensures ∙ change-more _ _ _ _ c.loop-site.invariant.1 (omega arith))
-
-pub returns : goal.returns
-returns g c = change-end (cleared c.args.word) (g.Self.Bank.means c.args.self.now) _ _ c.loop-site.invariant.1 (omega arith)

@@ -1,9 +1,6 @@
 use Rattle.std.proofs.Common.{rules}
-use Rattle.banks.proofs.Offered.{past-answer, rest-answer}
+use Rattle.banks.proofs.Offered.{rest-answer}
 use Rattle.banks.proofs.rows.BesideBank.read.Goals as goal
 
-pub returns-then-site-ge-MOST_SITES : goal.returns-then-site-ge-MOST_SITES
-returns-then-site-ge-MOST_SITES g c = search (rules, past-answer)
-
-pub returns-else-site-eq0 : goal.returns-else-site-eq0
-returns-else-site-eq0 g c = search (rules, rest-answer)
+pub returns-in_default : goal.returns-in_default
+returns-in_default g c = search (rules, rest-answer)

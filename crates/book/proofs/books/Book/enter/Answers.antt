@@ -1,16 +1,18 @@
-use Rattle.std.proofs.Common.{arith}
-use Rattle.slots.specs.Tables.{table_model}
-use Rattle.book.proofs.Rows.{enter-ok, enter-refused}
+use Rattle.std.proofs.Common.{◌≡◌, Ok, sym, subst, ap, ◌∙◌, arith, rules}
+use Rattle.book.specs.Entering.{version_in, by_slot, entry, entered}
+use Rattle.book.proofs.Calls.{site-found}
+use Rattle.book.proofs.Rows.{book, enters}
 use Rattle.book.proofs.books.Book.enter.Goals as goal
 
-pub returns-in-Ok : goal.returns-in-Ok
-returns-in-Ok g c =
-    let b = c.args.self.now in
-    enter-ok (g.L.Ledger.means b.ledger) (g.B.Bank.means b.bank) (table_model b.slots) b.refusals c.args.site c.args.letter c.args.slot _ _
-    c.in-Some.ensures (omega arith) c.admit.ensures.after _ c.in-Ok.ensures.answer
-
-pub returns-in-Err : goal.returns-in-Err
-returns-in-Err g c =
-    let b = c.args.self.now in
-    enter-refused (g.L.Ledger.means b.ledger) (g.B.Bank.means b.bank) (table_model b.slots) b.refusals c.args.site c.args.letter c.args.slot _ _
-    c.in-Some.ensures (omega arith) c.admit.ensures.after _ c.in-Err.ensures.answer
+pub returns : goal.returns
+returns g c =
+    let x = c.self.inside in
+    let l = g.L.Ledger.means x.ledger in
+    let rs = g.B.Bank.means x.bank in
+    let rows = x.slots in
+    let s = c.args.at.site in
+    let v = c.in_ok-version.version in
+    let there = site-found (book l rs rows x.refusals) s v (subst (λ z. Ok v ≡ version_in z s) (sym c.self.view_is) c.in_ok-version.ensures) in
+    let told : c.map_err.result ≡ by_slot c.admit.result = search rules in
+    ap (entry _) told ∙ enters l rs rows x.refusals s c.args.letter c.args.at.slot v _ there (omega arith) c.admit.ensures.after _ c.admit.ensures.answer
+    ∙ ap (λ z. entered z c.args.letter s c.args.at.slot) c.self.view_is

@@ -1,5 +1,5 @@
 use Rattle.std.proofs.Common.{◌++◌, get_or, take, sym, ap, ◌∙◌, arith}
-use Rattle.std.proofs.lemmas.List.{take_more, take_all, length-take-le}
+use Rattle.std.proofs.lemmas.List.{take_more, length-take-le}
 use Rattle.entries.proofs.Blanks.{no_write}
 use Rattle.rings.specs.Held.{held}
 use Rattle.replicas.specs.Records.{marked}
@@ -16,10 +16,3 @@ loop-w-preserved c =
           ∙ ap (λ ws. held c.args.ring.now ++ marked c.args.version ws) (sym (take_more set i no_write (omega arith))),
       c.push.ensures.room ∙ c.loop-w.invariant.1,
     )
-
-pub returns : goal.returns
-returns c =
-    record {
-      after = c.loop-w.invariant.0 ∙ ap (λ ws. held c.args.ring.now ++ marked c.args.version ws) (take_all c.loop-w.w-index c.args.set.now c.loop-w-test.false);
-      room = c.loop-w.invariant.1;
-    }

@@ -1,16 +1,31 @@
-use Rattle.std.proofs.Common.{◌+◌, ◌-◌, ◌/◌, ◌<◌, leb, sym, arith}
+use Rattle.std.proofs.Common.{length, leb, ap, ◌∙◌, arith}
+use Rattle.std.proofs.lemmas.List.{length-append, take_all}
+use Rattle.std.proofs.lemmas.List.Folds.{prefix_len-append}
 use Rattle.std.proofs.lemmas.List.Sums.{prefix_len-le-length}
+use Rattle.std.proofs.lemmas.Bool.Decides.{nat_tests}
 use Rattle.rings.specs.Held.{held}
-use Rattle.replicas.proofs.Turns.{upto-past}
+use Rattle.replicas.specs.Records.{upto}
+use Rattle.replicas.proofs.Scans.{rises-right}
 use Rattle.replicas.proofs.logs.scans.end_of.Goals as goal
 
-pub loop-low-init : goal.loop-low-init
-loop-low-init c = let n = prefix_len-le-length (λ r. leb r.version c.args.to) (held c.args.ring.now) in (omega arith, omega arith, omega arith)
+pub end_in-requires : goal.end_in-requires
+end_in-requires c = rises-right (λ r. r.version) _ _ _ (c.range.ensures ∙ take_all _ (held c.args.ring.now) (omega arith)) c.requires
 
-pub loop-low-preserved : goal.loop-low-preserved
-loop-low-preserved c =
-    let low = c.loop-low.low in
-    let high = c.loop-low.high in
-    let middle : low + (high - low) / 2 < high = omega arith in
-    let past = upto-past c.args.to (held c.args.ring.now) (low + (high - low) / 2) (omega (arith, c.loop-low.invariant.2)) (rw (sym c.record_at.ensures) c.if-record_at-to.false) in
-    (c.loop-low.invariant.0, past, omega (arith, c.loop-low.invariant.2))
+pub overflow_add-result : goal.overflow_add-result
+overflow_add-result c =
+    let n = ap length (c.range.ensures ∙ take_all _ (held c.args.ring.now) (omega arith)) in
+    let m = length-append c.range.result.0.now c.range.result.1.now in
+    let a = prefix_len-le-length (λ r. leb r.version c.args.to) c.range.result.0.now in
+    let b = prefix_len-le-length (λ r. leb r.version c.args.to) c.range.result.1.now in
+    omega arith
+
+pub returns-then-end-older : goal.returns-then-end-older
+returns-then-end-older c =
+    let e = ap (upto c.args.to) (c.range.ensures ∙ take_all _ (held c.args.ring.now) (omega arith)) in
+    let a = prefix_len-append (λ r. leb r.version c.args.to) c.range.result.0.now c.range.result.1.now in grind (arith, nat_tests)
+
+pub returns-else-end-older : goal.returns-else-end-older
+returns-else-end-older c =
+    let e = ap (upto c.args.to) (c.range.ensures ∙ take_all _ (held c.args.ring.now) (omega arith)) in
+    let a = prefix_len-append (λ r. leb r.version c.args.to) c.range.result.0.now c.range.result.1.now in
+    let b = prefix_len-le-length (λ r. leb r.version c.args.to) c.range.result.0.now in grind (arith, nat_tests)

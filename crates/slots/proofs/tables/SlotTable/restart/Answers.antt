@@ -1,26 +1,13 @@
-use Rattle.std.proofs.Common.{[], map, ap, arith}
-use Rattle.law.specs.Slots.{open_count, restarted}
-use Rattle.slots.specs.Tables.{row_model, table_model}
-use Rattle.slots.proofs.Places.{answered-there, changed-there}
-use Rattle.slots.proofs.Standing.{no_row, no-row-changed}
+use Rattle.std.proofs.Common.{[], map, length, get_or, set, sym, ap, ◌∙◌}
+use Rattle.std.proofs.lemmas.Bool.{ltb-true}
+use Rattle.law.specs.Slots.{restarted}
+use Rattle.slots.proofs.Standing.{row-changed}
 use Rattle.slots.proofs.tables.SlotTable.restart.Goals as goal
 
-pub returns-then-not-has_site : goal.returns-then-not-has_site
-returns-then-not-has_site c =
-    let rows = table_model c.args.self.now in
-    let none = c.if-not-has_site.ensures.is in
-    record {
-      answer = ap open_count (no_row rows c.args.site none);
-      after = no-row-changed rows c.args.site none _;
-    }
-
-pub returns : goal.returns
-returns c =
-    let sites = c.args.self.now.sites in
+pub returns-clause-after : goal.returns-clause-after
+returns-clause-after c =
+    let sites = c.self.inside.sites in
     let site = c.args.site in
-    let d = c.index-self-site.result in
-    let inside = c.if-not-has_site.ensures.within tt in
-    record {
-      answer = answered-there row_model sites site [] d open_count c.restart.result (omega (arith, inside)) c.restart.ensures.answer;
-      after = changed-there row_model sites site [] d c.restart.new.self (map restarted) (omega (arith, inside)) c.restart.ensures.after;
-    }
+    let inside = ltb-true site (length sites) (sym c.get.ensures.lookup.0 ∙ c.if-is_none.ensures) in
+    row-changed sites site c.index-self-site.result inside c.restart.new.self (map restarted) c.restart.ensures.after
+    ∙ ap (λ rows. set rows site (map restarted (get_or rows site []))) c.self.view_is

@@ -1,6 +1,0 @@
-use Rattle.std.proofs.Common.{sym}
-use Rattle.replicas.proofs.UndoLaws.{undo-backs}
-use Rattle.replicas.proofs.undos.calls.UndoReplicaReplica.version.Goals as goal
-
-pub returns : goal.returns
-returns c = sym (undo-backs c.args.self.now).version
