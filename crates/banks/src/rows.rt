@@ -10,7 +10,8 @@ use replicas::{Refusal, Replica};
 // A bank offers no site from this one on.
 const MOST_SITES: usize = 8;
 
-// A replica at site 0, and after it those of the rest. Of a longer row the first eight are offered.
+// A replica at site 0, and after it those of the rest. Of a longer row the first eight are offered. Each call is handed on by
+// its site: see `Bank`.
 #[derive(Drop)]
 pub struct Beside<R, B> {
     pub replica: R,

@@ -6,7 +6,8 @@ use crate::bank::Bank;
 use entries::WriteList;
 use replicas::{Refusal, Replica};
 
-// The only replica of its bank, at site 0.
+// The only replica of its bank, at site 0. Each call tests the site and is handed on, so that the test that the rules name
+// stands in each; one that runs a closure would need one for `&R` and one for `&mut R`.
 #[derive(Drop)]
 pub struct Alone<R> {
     pub replica: R,
@@ -24,35 +25,19 @@ impl<R: Replica> Bank for Alone<R> {
     }
 
     fn version(&self, site: usize) -> Option<u32> {
-        if site == 0 {
-            Some(self.replica.version())
-        } else {
-            None
-        }
+        (site == 0).then(|| self.replica.version())
     }
 
     fn base(&self, site: usize) -> Option<u32> {
-        if site == 0 {
-            Some(self.replica.base())
-        } else {
-            None
-        }
+        (site == 0).then(|| self.replica.base())
     }
 
     fn used(&self, site: usize) -> Option<usize> {
-        if site == 0 {
-            Some(self.replica.used())
-        } else {
-            None
-        }
+        (site == 0).then(|| self.replica.used())
     }
 
     fn items_at(&self, site: usize) -> Option<usize> {
-        if site == 0 {
-            Some(self.replica.items())
-        } else {
-            None
-        }
+        (site == 0).then(|| self.replica.items())
     }
 
     fn read(&self, site: usize, at: u32, item: usize) -> Result<u64, Refusal> {

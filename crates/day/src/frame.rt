@@ -5,7 +5,8 @@ use entries::Kind;
 use ledgers::Ledger;
 use std::io;
 
-// What a day does with a book of one kind of entry.
+// What a day does with a book of one kind of entry. A trait, since a bound such as `FnOnce(&mut Layout<K, L, B>)` cannot be
+// stated yet.
 pub(crate) trait Plan {
     // The kind of its entries.
     type Entry: Kind;

@@ -46,7 +46,7 @@ fn ledgers<B: Bank + Drop>(rt: &HostRuntime, bank: B) -> io::Result<()> {
     both(rt, &mut scan, &mut index, bank)
 }
 
-// Three sites are kept here and lent; what they stand on lies in the frame that lends it, so no function can make them.
+// Three sites are kept here and lent. Each program lays out its own: pages and records lie in the frame that lends them.
 fn main(rt: HostRuntime) -> io::Result<()> {
     let mut page = [0u64; 4];
     let mut records = [Record::BLANK; 5];

@@ -3,7 +3,7 @@ use entries::{Card, Count};
 use law::{Answer, Code};
 use std::io;
 
-// A value that a read shows.
+// A value that a read shows, told as a reader of the day wants it; `Display` is left to the text of a value, which is another.
 pub(crate) trait Shown: Copy {
     // Says what the value is.
     fn tell(self, rt: &HostRuntime) -> io::Result<()>;

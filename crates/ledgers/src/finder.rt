@@ -8,6 +8,7 @@ ghost use Rattle.ledgers.specs.Finders.{FitsFresh, FitsAdded, FitsTrimmed, Finds
 use crate::log::Log;
 use entries::{ItemSet, WriteList};
 
+// No other crate can give one, since its calls take the log.
 pub trait Finder: Drop {
     // what is noted is true of the ledger
     ghost fits: { LedgerModel → Self → Type 0 };

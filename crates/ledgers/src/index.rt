@@ -11,7 +11,7 @@ use entries::{ItemSet, WriteList};
 // Every item that a write can name.
 const ITEMS: usize = 256;
 
-// For each item the version that wrote it last; at or below the floor such a version counts no more.
+// For each of the 256 items, so no map is needed, the version that wrote it last; at or below the floor such a version counts no more.
 #[derive(Drop)]
 pub struct Index {
     last: [u32; ITEMS],

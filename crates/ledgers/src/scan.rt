@@ -8,7 +8,7 @@ use crate::log_ledger::LogLedger;
 use entries::{ItemSet, WriteList};
 
 // The log is searched from the head down; nothing is noted.
-#[derive(Clone, Copy)]
+#[derive(Clone, Copy, PartialEq, Eq, Debug)]
 pub struct Scan;
 
 pub type ScanLedger<'a> = LogLedger<'a, Scan>;

@@ -5,7 +5,7 @@ use entries::Count;
 use law::{Answer, Call, Code};
 use ledgers::Ledger;
 
-// What a day showed.
+// What a day showed, codes by their numbers.
 #[derive(Clone, Copy, PartialEq, Eq, Debug)]
 pub struct Day {
     pub opened_with: i32,

@@ -7,6 +7,7 @@ use ledgers::{Finder, Index, LogLedger, Scan};
 use replicas::{PageReplica, Record, UndoReplica};
 
 // A day over a ledger that finds conflicts in one way, and another on a book that is laid out from the parts of the first.
+// What they stand on lies in this frame.
 fn two_days<F: Finder>() -> [Day; 2] {
     let mut entries = [WriteList::empty(); 4];
     let ledger = LogLedger::<F>::new(&mut entries);

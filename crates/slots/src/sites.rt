@@ -6,7 +6,7 @@ ghost use Rattle.slots.specs.Tables.{row_model};
 
 use crate::slots::Slot;
 
-// The slots of one site. Like a slot, it has no derived equality.
+// The slots of one site, always eight: no heap. Like a slot, it has no derived equality.
 #[derive(Clone, Copy)]
 pub struct Site {
     pub(crate) slots: [Slot; 8],

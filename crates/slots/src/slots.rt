@@ -18,12 +18,12 @@ pub enum State {
     Filed(u32),
 }
 
-impl State {
-    // The number that stands for the state in text. A `match`, since two of the cases carry a number of their own.
-    pub fn number(self) -> u64
-        ensures { result ≡ number_of self }
-    {
-        match self {
+impl From<State> for u64 {
+    ghost from_gives = { λ state r. r ≡ number_of state };
+
+    // The number that stands for the state in text.
+    fn from(state: State) -> u64 {
+        match state {
             State::Idle => 0,
             State::Open(_) => 1,
             State::Filed(_) => 2,
@@ -148,7 +148,7 @@ impl Slot {
         }
     }
 
-    // An open transaction is lost; 1 where it was open, else 0.
+    // An open transaction is lost; 1 where it was open, else 0, so that a site can sum them.
     pub(crate) fn restart(&mut self) -> u32
         ensures answer { result ≡ opens (slot_model self.old) }
         ensures after { slot_model self.new ≡ restarted (slot_model self.old) }

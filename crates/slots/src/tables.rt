@@ -14,6 +14,7 @@ use crate::slots::{Slot, State};
 use entries::{ItemSet, ListFull, WriteList};
 use std::marker::Model;
 
+// The slots of eight sites, always so many: no heap.
 #[derive(Drop)]
 pub struct SlotTable {
     sites: [Site; 8],
@@ -60,7 +61,8 @@ impl SlotTable {
         Some(call(&mut row.slots[at.slot]))
     }
 
-    // The slot takes a call by its letter and answers the number that it goes by, or refuses with its state.
+    // The slot takes a call by its letter, the `char` of the text, and answers the number that it goes by, or refuses with its
+    // state.
     pub fn admit(&mut self, at: Place, letter: char, version: u32) -> Result<u32, State>
         ensures answer { result ≡ admit_answer letter version (slot_in self.old at.site at.slot) }
         ensures after { self.new ≡ changed_slot self.old at.site at.slot (after_admit letter version) }

@@ -11,7 +11,7 @@ use ledgers::{Finder, Index, LogLedger, Scan};
 use replicas::{PageReplica, Record, UndoReplica};
 use std::io;
 
-// Two sites in a bank.
+// Two sites in a bank. Each program lays out its own: pages and records lie in the frame that lends them.
 fn two_sites(rt: &HostRuntime) -> io::Result<()> {
     let mut page = [0u64; 4];
     let mut records = [Record::BLANK; 5];

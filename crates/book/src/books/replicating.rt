@@ -95,7 +95,7 @@ impl<K: Kind, L: Ledger, B: Bank> Book<K, L, B> {
     fn behind(&self, to: u32) -> Option<usize>
         ensures { result ≡ behind to 0 self.now.replicas }
     {
-        // sites are numbers, and a bank has no list of them to go through
+        // a loop: of `find` over the sites the proof did not close
         for site in 0..self.bank.sites() {
             if self.version_at(site) < to {
                 return Some(site);

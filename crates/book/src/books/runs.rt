@@ -40,6 +40,7 @@ impl<K: Kind, L: Ledger, B: Bank> Book<K, L, B> {
             'U' => self.restart(call.site),
             'V' => self.version(call.site),
             'N' => self.count(),
+            // refused here, since no call is made that could hand it on
             _ => answer::<K>(Code::NoSuchLetter, 0),
         }
     }
@@ -50,6 +51,7 @@ impl<K: Kind, L: Ledger, B: Bank> Book<K, L, B> {
         ensures after { self.new ≡ book_after K.Kind.coding self.old calls.now }
         ensures answers { answers.new ≡ answers_to K.Kind.coding self.old calls.now ++ drop (length calls.now) answers.old }
     {
+        // by places: after a `zip` with `iter_mut` nothing is known of the answers
         for (i, call) in calls.iter().enumerate() {
             answers[i] = self.call(char::from(call.letter), *call);
         }
@@ -67,6 +69,7 @@ impl<K: Kind, L: Ledger, B: Bank> Book<K, L, B> {
         ensures answers { answers.new ≡ answers_after_run K.Kind.coding self.old calls.now answers.old }
         ensures law { KeepsLaw K.Kind.coding self.old (calls_made calls.now answers.old) answers.new self.new }
     {
+        // its one refusal is answered here, since nothing hands it on
         let count = calls.len();
         if answers.len() < count {
             return answer::<K>(Code::TooFewAnswers, count as u64);

@@ -12,15 +12,13 @@ use super::Book;
 use crate::answers::{Refused, answer, answered, shown};
 use banks::Bank;
 use entries::Kind;
+use entries::lists::MOST;
 use law::{Answer, Code};
 use ledgers::Ledger;
 use slots::Place;
 
 // A site has so many slots.
 const SLOTS: usize = 8;
-
-// A write list has room for so many items.
-const MOST_WRITES: u64 = 8;
 
 impl<K: Kind, L: Ledger, B: Bank> Book<K, L, B> {
     // Begins a transaction at the site's version.
@@ -90,7 +88,7 @@ impl<K: Kind, L: Ledger, B: Bank> Book<K, L, B> {
             .admit(at, letter, version)
             .map_err(|state| Refused {
                 code: Code::WrongState,
-                number: state.number(),
+                number: u64::from(state),
             })
     }
 
@@ -142,7 +140,7 @@ impl<K: Kind, L: Ledger, B: Bank> Book<K, L, B> {
             .map(|length| length as u64)
             .map_err(|_| Refused {
                 code: Code::ListFull,
-                number: MOST_WRITES,
+                number: MOST as u64,
             })
     }
 
