@@ -5,19 +5,25 @@ use Rattle.ledgers.specs.Model.{LedgerModel}
 use Rattle.law.specs.declared.calls.Call.{Call}
 use Rattle.law.specs.declared.calls.Answer.{Answer}
 use Rattle.law.specs.Letters.{Letter, byte_of}
-use Rattle.law.specs.Slots.{SlotModel}
 use Rattle.law.specs.Books.{BookModel}
 use Rattle.law.specs.Calls.{Outcome}
 use Rattle.law.specs.Layouts.{LayoutModel, OpeningValue}
+use Rattle.book.specs.declared.books.Book.{Book}
+use Rattle.book.specs.declared.books.Layout.{Layout}
 
 -- the ledger and the offered replicas of a layout
-abbrev pub layout_of : LedgerModel → List ReplicaModel → LayoutModel
-layout_of ledger replicas = record { ledger = ledger; replicas = replicas }
+abbrev pub layout_of : {K L B : Type 0} → (L → LedgerModel) → (B → List ReplicaModel) → Layout K L B → LayoutModel
+layout_of ledger bank y = record { ledger = ledger y.ledger; replicas = bank y.bank }
 
 -- a book: of its table of slots, a row for each site that the bank offers
-abbrev pub book_of : LedgerModel → List ReplicaModel → List (List SlotModel) → ℕ → BookModel
-book_of ledger replicas table refusals =
-    record { ledger = ledger; replicas = replicas; slots = take (length replicas) table; refusals = refusals }
+abbrev pub book_of : {K L B : Type 0} → (L → LedgerModel) → (B → List ReplicaModel) → Book K L B → BookModel
+book_of ledger bank b =
+    record {
+      ledger = ledger b.ledger;
+      replicas = bank b.bank;
+      slots = take (length (bank b.bank)) b.slots;
+      refusals = b.refusals;
+    }
 
 -- a book that a call left, with its answer
 abbrev pub outcome : {V : Type 0} → BookModel → Answer V → Outcome V

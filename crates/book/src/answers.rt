@@ -21,7 +21,7 @@ pub fn answer<K: Kind>(code: Code, number: u64) -> Answer<K::Value>
     Answer {
         code,
         number,
-        value: K::BLANK,
+        value: K::empty(),
     }
 }
 
@@ -41,6 +41,6 @@ pub fn shown<K: Kind>(word: Result<u64, Refusal>) -> K::Value
 {
     match word {
         Ok(word) => K::decode(word),
-        Err(_) => K::BLANK,
+        Err(_) => K::empty(),
     }
 }

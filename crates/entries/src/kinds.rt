@@ -1,8 +1,8 @@
 // Kinds of entry: a type of value, its blank, and its coding into words.
-ghost use Rattle.std.specs.Prelude.{◌≡◌, refl};
+ghost use Rattle.std.specs.Prelude.{◌≡◌};
 ghost use Rattle.entries.specs.Codings.{Coding, Faithful, BlankElsewhere};
-ghost use Rattle.entries.specs.Counts.{count_coding, no_count};
-ghost use Rattle.entries.specs.Cards.{card_coding, no_card};
+ghost use Rattle.entries.specs.Counts.{count_coding};
+ghost use Rattle.entries.specs.Cards.{card_coding};
 ghost use Rattle.entries.specs.CountsLemmas as Counts;
 ghost use Rattle.entries.specs.CardsLemmas as Cards;
 
@@ -14,11 +14,12 @@ pub trait Kind {
     // The value that an item has where nothing else was given.
     const BLANK: Self::Value;
 
-    // the same in clauses
-    ghost BLANK: { Self.Value };
-
     // the blank, the word of each value, and the value of each word
     ghost coding: { Coding Self.Value };
+
+    // `BLANK`, with a contract that says which value it is.
+    fn empty() -> Self::Value
+        ensures { result ≡ coding.blank };
 
     fn encode(value: Self::Value) -> u64
         ensures { result ≡ coding.word value };
@@ -31,9 +32,6 @@ pub trait Kind {
 
     // a word that codes no value decodes to the blank
     ghost elsewhere: { BlankElsewhere coding };
-
-    // the constant is the coding's blank
-    ghost blank_is: { BLANK ≡ coding.blank };
 }
 
 // Counts: the word of a number is the number modulo 4294967296.
@@ -42,15 +40,15 @@ impl Kind for Count {
 
     const BLANK: Count = Count { number: 0 };
 
-    ghost BLANK = { no_count };
-
     ghost coding = { count_coding };
 
     ghost faithful = { Counts.faithful };
 
     ghost elsewhere = { Counts.elsewhere };
 
-    ghost blank_is = { refl };
+    fn empty() -> Count {
+        Self::BLANK
+    }
 
     fn encode(value: Count) -> u64 {
         u64::from(value.number.cast_unsigned())
@@ -95,15 +93,15 @@ impl Kind for Card {
         minutes: 0,
     };
 
-    ghost BLANK = { no_card };
-
     ghost coding = { card_coding };
 
     ghost faithful = { Cards.faithful };
 
     ghost elsewhere = { Cards.elsewhere };
 
-    ghost blank_is = { refl };
+    fn empty() -> Card {
+        Self::BLANK
+    }
 
     fn encode(value: Card) -> u64 {
         u64::from(value.stage)

@@ -3,7 +3,7 @@ ghost use Rattle.std.specs.Prelude.{◌≡◌, ◌<◌, Err};
 ghost use Rattle.law.specs.Books.{site_count};
 ghost use Rattle.law.specs.Calls.{turned_away, file_by, file_call};
 ghost use Rattle.book.specs.Answers.{answer_of, refusal};
-ghost use Rattle.book.specs.Books.{outcome};
+ghost use Rattle.book.specs.Books.{book_of, outcome};
 ghost use Rattle.book.specs.Filing.{ended, filing};
 
 use super::Book;
@@ -20,7 +20,7 @@ const LAST: u32 = 999999;
 impl<K: Kind, L: Ledger, B: Bank> Book<K, L, B> {
     // The transaction of a slot is over: the slot is idle, and the horizon moves.
     fn end(&mut self, at: Place)
-        ensures { self.new ≡ ended self.old at.site at.slot }
+        ensures { book_of L.Ledger.means B.Bank.means self.new ≡ ended (book_of L.Ledger.means B.Bank.means self.old) at.site at.slot }
     {
         self.slots.end(at);
         self.settle(at.site);
@@ -28,7 +28,7 @@ impl<K: Kind, L: Ledger, B: Bank> Book<K, L, B> {
 
     // A filing is turned away for good: its transaction is over, and it is counted.
     fn turn_away(&mut self, at: Place, code: Code, number: u32) -> Refused
-        ensures { outcome self.new (refusal K.Kind.coding result) ≡ turned_away K.Kind.coding self.old at.site at.slot code number }
+        ensures { outcome (book_of L.Ledger.means B.Bank.means self.new) (refusal K.Kind.coding result) ≡ turned_away K.Kind.coding (book_of L.Ledger.means B.Bank.means self.old) at.site at.slot code number }
     {
         self.end(at);
         if self.refusals < LAST {
@@ -42,7 +42,7 @@ impl<K: Kind, L: Ledger, B: Bank> Book<K, L, B> {
 
     // The number under which a transaction is filed, or its snapshot where it has no writes.
     pub(crate) fn try_file(&mut self, at: Place) -> Result<u64, Refused>
-        ensures { outcome self.new (answer_of K.Kind.coding result) ≡ file_call K.Kind.coding self.old at.site at.slot }
+        ensures { outcome (book_of L.Ledger.means B.Bank.means self.new) (answer_of K.Kind.coding result) ≡ file_call K.Kind.coding (book_of L.Ledger.means B.Bank.means self.old) at.site at.slot }
     {
         let snapshot = self.enter('F', at)?;
         self.file_open(at, snapshot)
@@ -50,8 +50,8 @@ impl<K: Kind, L: Ledger, B: Bank> Book<K, L, B> {
 
     // Files an open transaction.
     fn file_open(&mut self, at: Place, snapshot: u32) -> Result<u64, Refused>
-        requires { at.site < site_count self.old }
-        ensures { outcome self.new (answer_of K.Kind.coding result) ≡ filing K.Kind.coding self.old at.site at.slot snapshot }
+        requires { at.site < site_count (book_of L.Ledger.means B.Bank.means self.old) }
+        ensures { outcome (book_of L.Ledger.means B.Bank.means self.new) (answer_of K.Kind.coding result) ≡ filing K.Kind.coding (book_of L.Ledger.means B.Bank.means self.old) at.site at.slot snapshot }
     {
         let list = self.slots.list(at);
         if list.len() == 0 {
@@ -76,7 +76,7 @@ impl<K: Kind, L: Ledger, B: Bank> Book<K, L, B> {
         snapshot: u32,
         refusal: LedgerRefusal,
     ) -> Result<u64, Refused>
-        ensures { outcome self.new (answer_of K.Kind.coding result) ≡ file_by K.Kind.coding self.old at.site at.slot snapshot self.old.ledger (Err refusal) }
+        ensures { outcome (book_of L.Ledger.means B.Bank.means self.new) (answer_of K.Kind.coding result) ≡ file_by K.Kind.coding (book_of L.Ledger.means B.Bank.means self.old) at.site at.slot snapshot (book_of L.Ledger.means B.Bank.means self.old).ledger (Err refusal) }
     {
         match refusal {
             LedgerRefusal::BelowFloor(floor) => {

@@ -2,7 +2,7 @@
 ghost use Rattle.std.specs.Prelude.{◌≡◌, List, [], ◌∷◌};
 ghost use Rattle.law.specs.Layouts.{laid_out, lay_answer, after_lay, book_in_use, opening_values, blanks};
 ghost use Rattle.law.specs.Law.{Laid, Led};
-ghost use Rattle.book.specs.Books.{opening};
+ghost use Rattle.book.specs.Books.{book_of, layout_of, opening};
 
 use super::{Book, Layout, Parts};
 use crate::answers::answer;
@@ -16,15 +16,15 @@ use std::marker::PhantomData;
 impl<K: Kind, L: Ledger, B: Bank> Layout<K, L, B> {
     // Empties the ledger, and clears the replicas with the blank.
     pub fn new(parts: Parts<L, B>) -> Layout<K, L, B>
-        ensures is { result ≡ laid_out K.Kind.coding (L.Ledger.means parts.ledger) (B.Bank.means parts.bank) }
-        ensures laid { Laid K.Kind.coding (blanks K.Kind.coding (B.Bank.means parts.bank)) result }
+        ensures is { layout_of L.Ledger.means B.Bank.means result ≡ laid_out K.Kind.coding (L.Ledger.means parts.ledger) (B.Bank.means parts.bank) }
+        ensures laid { Laid K.Kind.coding (blanks K.Kind.coding (B.Bank.means parts.bank)) (layout_of L.Ledger.means B.Bank.means result) }
     {
         let Parts {
             mut ledger,
             mut bank,
         } = parts;
         ledger.clear();
-        bank.clear(K::encode(K::BLANK));
+        bank.clear(K::encode(K::empty()));
         Layout {
             ledger,
             bank,
@@ -34,9 +34,9 @@ impl<K: Kind, L: Ledger, B: Bank> Layout<K, L, B> {
 
     // Lays an opening value into every replica; refused where not every replica has the item.
     pub fn lay(&mut self, item: u32, value: K::Value) -> Answer<K::Value>
-        ensures answer { result ≡ lay_answer K.Kind.coding self.old item }
-        ensures after { self.new ≡ after_lay K.Kind.coding self.old item value }
-        ensures laid { (p : List K.Value) → Laid K.Kind.coding p self.old → Laid K.Kind.coding (opening_values K.Kind.coding p (opening item value ∷ [])) self.new }
+        ensures answer { result ≡ lay_answer K.Kind.coding (layout_of L.Ledger.means B.Bank.means self.old) item }
+        ensures after { layout_of L.Ledger.means B.Bank.means self.new ≡ after_lay K.Kind.coding (layout_of L.Ledger.means B.Bank.means self.old) item value }
+        ensures laid { (p : List K.Value) → Laid K.Kind.coding p (layout_of L.Ledger.means B.Bank.means self.old) → Laid K.Kind.coding (opening_values K.Kind.coding p (opening item value ∷ [])) (layout_of L.Ledger.means B.Bank.means self.new) }
     {
         // its one refusal is answered here, since nothing hands it on
         let word = K::encode(value);
@@ -48,8 +48,8 @@ impl<K: Kind, L: Ledger, B: Bank> Layout<K, L, B> {
 
     // The book in use: every slot idle, nothing counted.
     pub fn open(self) -> Book<K, L, B>
-        ensures is { result ≡ book_in_use K.Kind.coding self }
-        ensures starts { (p : List K.Value) → Laid K.Kind.coding p self → Led K.Kind.coding p [] result }
+        ensures is { book_of L.Ledger.means B.Bank.means result ≡ book_in_use K.Kind.coding (layout_of L.Ledger.means B.Bank.means self) }
+        ensures starts { (p : List K.Value) → Laid K.Kind.coding p (layout_of L.Ledger.means B.Bank.means self) → Led K.Kind.coding p [] (book_of L.Ledger.means B.Bank.means result) }
     {
         let Layout { ledger, bank, kind } = self;
         Book {
@@ -65,8 +65,8 @@ impl<K: Kind, L: Ledger, B: Bank> Layout<K, L, B> {
 impl<K: Kind, L: Ledger, B: Bank> Book<K, L, B> {
     // Ledger and bank again, with what they mean. A new layout can be made from them.
     pub fn wind_up(self) -> Parts<L, B>
-        ensures ledger { L.Ledger.means result.ledger ≡ self.ledger }
-        ensures bank { B.Bank.means result.bank ≡ self.replicas }
+        ensures ledger { L.Ledger.means result.ledger ≡ (book_of L.Ledger.means B.Bank.means self).ledger }
+        ensures bank { B.Bank.means result.bank ≡ (book_of L.Ledger.means B.Bank.means self).replicas }
     {
         let Book {
             ledger,

@@ -5,7 +5,7 @@ ghost use Rattle.law.specs.Letters.Letter.{begins, reads, writes, files, closes,
 ghost use Rattle.law.specs.Calls.{begin_call, read_call, write_call, file_call, close_call, drop_call};
 ghost use Rattle.law.specs.Law.{KeepsLaw};
 ghost use Rattle.book.specs.Answers.{answer_of, answer_or_why};
-ghost use Rattle.book.specs.Books.{outcome, call_of};
+ghost use Rattle.book.specs.Books.{book_of, outcome, call_of};
 ghost use Rattle.book.specs.Entering.{item_in, entry, entered};
 
 use super::Book;
@@ -23,16 +23,16 @@ const SLOTS: usize = 8;
 impl<K: Kind, L: Ledger, B: Bank> Book<K, L, B> {
     // Begins a transaction at the site's version.
     pub fn begin(&mut self, site: u32, slot: u32) -> Answer<K::Value>
-        ensures is { outcome self.new result ≡ begin_call K.Kind.coding self.old site slot }
-        ensures law { KeepsLaw K.Kind.coding self.old (call_of begins site slot 0 K.Kind.coding.blank ∷ []) (result ∷ []) self.new }
+        ensures is { outcome (book_of L.Ledger.means B.Bank.means self.new) result ≡ begin_call K.Kind.coding (book_of L.Ledger.means B.Bank.means self.old) site slot }
+        ensures law { KeepsLaw K.Kind.coding (book_of L.Ledger.means B.Bank.means self.old) (call_of begins site slot 0 K.Kind.coding.blank ∷ []) (result ∷ []) (book_of L.Ledger.means B.Bank.means self.new) }
     {
         answered::<K>(self.enter('B', Place::new(site, slot)).map(u64::from))
     }
 
     // Reads an item: the transaction's own write, else the replica at the snapshot, and only then does it join the items read.
     pub fn read(&mut self, site: u32, slot: u32, item: u32) -> Answer<K::Value>
-        ensures is { outcome self.new result ≡ read_call K.Kind.coding self.old site slot item }
-        ensures law { KeepsLaw K.Kind.coding self.old (call_of reads site slot item K.Kind.coding.blank ∷ []) (result ∷ []) self.new }
+        ensures is { outcome (book_of L.Ledger.means B.Bank.means self.new) result ≡ read_call K.Kind.coding (book_of L.Ledger.means B.Bank.means self.old) site slot item }
+        ensures law { KeepsLaw K.Kind.coding (book_of L.Ledger.means B.Bank.means self.old) (call_of reads site slot item K.Kind.coding.blank ∷ []) (result ∷ []) (book_of L.Ledger.means B.Bank.means self.new) }
     {
         match self.try_read(Place::new(site, slot), item) {
             Ok(shown) => shown,
@@ -42,32 +42,32 @@ impl<K: Kind, L: Ledger, B: Bank> Book<K, L, B> {
 
     // Writes the value to an item.
     pub fn write(&mut self, site: u32, slot: u32, item: u32, value: K::Value) -> Answer<K::Value>
-        ensures is { outcome self.new result ≡ write_call K.Kind.coding self.old site slot item value }
-        ensures law { KeepsLaw K.Kind.coding self.old (call_of writes site slot item value ∷ []) (result ∷ []) self.new }
+        ensures is { outcome (book_of L.Ledger.means B.Bank.means self.new) result ≡ write_call K.Kind.coding (book_of L.Ledger.means B.Bank.means self.old) site slot item value }
+        ensures law { KeepsLaw K.Kind.coding (book_of L.Ledger.means B.Bank.means self.old) (call_of writes site slot item value ∷ []) (result ∷ []) (book_of L.Ledger.means B.Bank.means self.new) }
     {
         answered::<K>(self.try_write(Place::new(site, slot), item, value))
     }
 
     // Files a transaction: one without writes ends, and the ledger certifies one with writes by all items read or written.
     pub fn file(&mut self, site: u32, slot: u32) -> Answer<K::Value>
-        ensures is { outcome self.new result ≡ file_call K.Kind.coding self.old site slot }
-        ensures law { KeepsLaw K.Kind.coding self.old (call_of files site slot 0 K.Kind.coding.blank ∷ []) (result ∷ []) self.new }
+        ensures is { outcome (book_of L.Ledger.means B.Bank.means self.new) result ≡ file_call K.Kind.coding (book_of L.Ledger.means B.Bank.means self.old) site slot }
+        ensures law { KeepsLaw K.Kind.coding (book_of L.Ledger.means B.Bank.means self.old) (call_of files site slot 0 K.Kind.coding.blank ∷ []) (result ∷ []) (book_of L.Ledger.means B.Bank.means self.new) }
     {
         answered::<K>(self.try_file(Place::new(site, slot)))
     }
 
     // Closes a filed slot whose number has been delivered to the site.
     pub fn close(&mut self, site: u32, slot: u32) -> Answer<K::Value>
-        ensures is { outcome self.new result ≡ close_call K.Kind.coding self.old site slot }
-        ensures law { KeepsLaw K.Kind.coding self.old (call_of closes site slot 0 K.Kind.coding.blank ∷ []) (result ∷ []) self.new }
+        ensures is { outcome (book_of L.Ledger.means B.Bank.means self.new) result ≡ close_call K.Kind.coding (book_of L.Ledger.means B.Bank.means self.old) site slot }
+        ensures law { KeepsLaw K.Kind.coding (book_of L.Ledger.means B.Bank.means self.old) (call_of closes site slot 0 K.Kind.coding.blank ∷ []) (result ∷ []) (book_of L.Ledger.means B.Bank.means self.new) }
     {
         answered::<K>(self.try_close(Place::new(site, slot)))
     }
 
     // Drops a transaction.
     pub fn discard(&mut self, site: u32, slot: u32) -> Answer<K::Value>
-        ensures is { outcome self.new result ≡ drop_call K.Kind.coding self.old site slot }
-        ensures law { KeepsLaw K.Kind.coding self.old (call_of drops site slot 0 K.Kind.coding.blank ∷ []) (result ∷ []) self.new }
+        ensures is { outcome (book_of L.Ledger.means B.Bank.means self.new) result ≡ drop_call K.Kind.coding (book_of L.Ledger.means B.Bank.means self.old) site slot }
+        ensures law { KeepsLaw K.Kind.coding (book_of L.Ledger.means B.Bank.means self.old) (call_of drops site slot 0 K.Kind.coding.blank ∷ []) (result ∷ []) (book_of L.Ledger.means B.Bank.means self.new) }
     {
         answered::<K>(self.try_discard(Place::new(site, slot)))
     }
@@ -75,7 +75,7 @@ impl<K: Kind, L: Ledger, B: Bank> Book<K, L, B> {
     // Tests site, slot and state; where they fit the call, the slot moves on and tells the number that it goes by. The letter is
     // a `char`, as the slot takes it.
     pub(crate) fn enter(&mut self, letter: char, at: Place) -> Result<u32, Refused>
-        ensures { entry self.new result ≡ entered self.old letter at.site at.slot }
+        ensures { entry (book_of L.Ledger.means B.Bank.means self.new) result ≡ entered (book_of L.Ledger.means B.Bank.means self.old) letter at.site at.slot }
     {
         let version = self.known_version(at.site)?;
         if at.slot >= SLOTS {
@@ -94,7 +94,7 @@ impl<K: Kind, L: Ledger, B: Bank> Book<K, L, B> {
 
     // Refuses an item that not every replica has.
     fn known_item(&self, item: u32) -> Result<u8, Refused>
-        ensures { result ≡ item_in self.now item }
+        ensures { result ≡ item_in (book_of L.Ledger.means B.Bank.means self.now) item }
     {
         let items = self.bank.items();
         if item as usize >= items {
@@ -108,7 +108,7 @@ impl<K: Kind, L: Ledger, B: Bank> Book<K, L, B> {
 
     // The answer of a read that is not refused: the snapshot, and the value that it shows.
     fn try_read(&mut self, at: Place, item: u32) -> Result<Answer<K::Value>, Refused>
-        ensures { outcome self.new (answer_or_why K.Kind.coding result) ≡ read_call K.Kind.coding self.old at.site at.slot item }
+        ensures { outcome (book_of L.Ledger.means B.Bank.means self.new) (answer_or_why K.Kind.coding result) ≡ read_call K.Kind.coding (book_of L.Ledger.means B.Bank.means self.old) at.site at.slot item }
     {
         let snapshot = self.enter('R', at)?;
         let item = self.known_item(item)?;
@@ -130,7 +130,7 @@ impl<K: Kind, L: Ledger, B: Bank> Book<K, L, B> {
 
     // The length of the write list that a write leaves.
     fn try_write(&mut self, at: Place, item: u32, value: K::Value) -> Result<u64, Refused>
-        ensures { outcome self.new (answer_of K.Kind.coding result) ≡ write_call K.Kind.coding self.old at.site at.slot item value }
+        ensures { outcome (book_of L.Ledger.means B.Bank.means self.new) (answer_of K.Kind.coding result) ≡ write_call K.Kind.coding (book_of L.Ledger.means B.Bank.means self.old) at.site at.slot item value }
     {
         self.enter('W', at)?;
         let item = self.known_item(item)?;
@@ -146,7 +146,7 @@ impl<K: Kind, L: Ledger, B: Bank> Book<K, L, B> {
 
     // The number of the filed transaction whose slot is closed.
     fn try_close(&mut self, at: Place) -> Result<u64, Refused>
-        ensures { outcome self.new (answer_of K.Kind.coding result) ≡ close_call K.Kind.coding self.old at.site at.slot }
+        ensures { outcome (book_of L.Ledger.means B.Bank.means self.new) (answer_of K.Kind.coding result) ≡ close_call K.Kind.coding (book_of L.Ledger.means B.Bank.means self.old) at.site at.slot }
     {
         let number = self.enter('C', at)?;
         let version = self.version_at(at.site);
@@ -162,7 +162,7 @@ impl<K: Kind, L: Ledger, B: Bank> Book<K, L, B> {
 
     // The snapshot of the transaction that is dropped.
     fn try_discard(&mut self, at: Place) -> Result<u64, Refused>
-        ensures { outcome self.new (answer_of K.Kind.coding result) ≡ drop_call K.Kind.coding self.old at.site at.slot }
+        ensures { outcome (book_of L.Ledger.means B.Bank.means self.new) (answer_of K.Kind.coding result) ≡ drop_call K.Kind.coding (book_of L.Ledger.means B.Bank.means self.old) at.site at.slot }
     {
         let snapshot = self.enter('X', at)?;
         self.settle(at.site);

@@ -1,9 +1,8 @@
-use Rattle.std.proofs.Common.{ap, ◌∙◌}
+use Rattle.std.proofs.Common.{ap}
 use Rattle.ledgers.specs.declared.ledger.LedgerRefusal.TheVariants.{BelowFloor, Conflict, NoWrites, LastVersion, Full}
 use Rattle.law.specs.declared.codes.Code.TheVariants.{Accepted, NumbersUsedUp, LedgerFull}
-use Rattle.law.specs.Books.{BookModel}
 use Rattle.law.specs.Calls.{plain, file_by}
-use Rattle.book.specs.Books.{outcome}
+use Rattle.book.specs.Books.{book_of, outcome}
 use Rattle.book.proofs.Calls.{same_outcome}
 use Rattle.book.proofs.Filings.{refused_as}
 use Rattle.book.proofs.books.Book.refuse_filing.Goals as goal
@@ -12,7 +11,7 @@ pub returns-in-BelowFloor : goal.returns-in-BelowFloor
 unfolding file_by
 returns-in-BelowFloor g c =
     let k = g.K.Kind.coding in
-    let b = c.args.self.now in
+    let b = book_of g.L.Ledger.means g.B.Bank.means c.args.self.now in
     let s = c.args.at.site in
     let j = c.args.at.slot in
     let n = c.args.snapshot in
@@ -22,7 +21,7 @@ pub returns-in-Conflict : goal.returns-in-Conflict
 unfolding file_by
 returns-in-Conflict g c =
     let k = g.K.Kind.coding in
-    let b = c.args.self.now in
+    let b = book_of g.L.Ledger.means g.B.Bank.means c.args.self.now in
     let s = c.args.at.site in
     let j = c.args.at.slot in
     let n = c.args.snapshot in
@@ -32,7 +31,7 @@ pub returns-in-NoWrites : goal.returns-in-NoWrites
 unfolding file_by
 returns-in-NoWrites g c =
     let k = g.K.Kind.coding in
-    let b = c.args.self.now in
+    let b = book_of g.L.Ledger.means g.B.Bank.means c.args.self.now in
     let s = c.args.at.site in
     let j = c.args.at.slot in
     let n = c.args.snapshot in
@@ -42,7 +41,7 @@ pub returns-in-LastVersion : goal.returns-in-LastVersion
 unfolding file_by
 returns-in-LastVersion g c =
     let k = g.K.Kind.coding in
-    let b = c.args.self.now in
+    let b = book_of g.L.Ledger.means g.B.Bank.means c.args.self.now in
     let s = c.args.at.site in
     let j = c.args.at.slot in
     let n = c.args.snapshot in
@@ -52,9 +51,9 @@ pub returns-in-Full : goal.returns-in-Full
 unfolding file_by
 returns-in-Full g c =
     let k = g.K.Kind.coding in
-    let b = c.args.self.now in
+    let b = book_of g.L.Ledger.means g.B.Bank.means c.args.self.now in
     let s = c.args.at.site in
     let j = c.args.at.slot in
     let n = c.args.snapshot in
     refused_as k b s j n c.args.refusal Full _ c.in-Full.is
-    (ap (λ z. outcome b (plain k LedgerFull z)) (c.capacity.ensures ∙ ap (λ (z : BookModel). z.ledger.capacity) c.self.view_is))
+    (ap (λ z. outcome b (plain k LedgerFull z)) c.capacity.ensures)

@@ -1,11 +1,12 @@
 use Rattle.std.proofs.Common.{arith}
+use Rattle.book.specs.Books.{book_of}
 use Rattle.book.proofs.Runs.{refused-answer, refused-book, refused-answers, done-answer, done-book, done-answers, run-keeps}
 use Rattle.book.proofs.books.Book.run.Goals as goal
 
 pub returns-then-answers-count : goal.returns-then-answers-count
 returns-then-answers-count g c =
     let k = g.K.Kind.coding in
-    let b = c.args.self.now in
+    let b = book_of g.L.Ledger.means g.B.Bank.means c.args.self.now in
     let calls = c.args.calls.now in
     let old = c.args.answers.now in
     let eb = refused-book k b calls old (omega arith) in
@@ -20,8 +21,8 @@ returns-then-answers-count g c =
 pub returns : goal.returns
 returns g c =
     let k = g.K.Kind.coding in
-    let b = c.args.self.now in
-    let b' = c.run_all.new.self in
+    let b = book_of g.L.Ledger.means g.B.Bank.means c.args.self.now in
+    let b' = book_of g.L.Ledger.means g.B.Bank.means c.run_all.new.self in
     let calls = c.args.calls.now in
     let old = c.args.answers.now in
     let new = c.run_all.new.answers in

@@ -1,4 +1,4 @@
-use Rattle.std.proofs.Common.{sym, subst, ◌∙◌}
+use Rattle.std.proofs.Common.{sym, subst}
 use Rattle.law.specs.Layouts.{blanks}
 use Rattle.law.specs.Law.{Laid}
 use Rattle.law.proofs.Main.{opening-law}
@@ -10,5 +10,5 @@ returns-clause-laid g c =
     let k = g.K.Kind.coding in
     let l = g.L.Ledger.means c.args.parts.ledger in
     let rs = g.B.Bank.means c.args.parts.bank in
-    let e = made-new k l rs _ _ _ _ c.clear.ensures c.clear-2.ensures c.encode.ensures (c.BLANK.ensures ∙ g.met.K.Kind.blank_is) in
+    let e = made-new k l rs _ _ _ _ c.clear.ensures c.clear-2.ensures c.encode.ensures c.empty.ensures in
     subst (Laid k (blanks k rs)) (sym e) ((opening-law k).0 l rs)

@@ -1,12 +1,13 @@
+use Rattle.book.specs.Books.{book_of, layout_of}
 use Rattle.book.proofs.Runs.{served-answers, served-book, served-ledger, served-bank, served-law}
 use Rattle.book.proofs.books.runs.serve.Goals as goal
 
 pub returns : goal.returns
 returns g c =
     let k = g.K.Kind.coding in
-    let y = c.args.layout in
-    let b = c.open-book.result in
-    let b' = c.run-answer.new.self in
+    let y = layout_of g.L.Ledger.means g.B.Bank.means c.args.layout in
+    let b = book_of g.L.Ledger.means g.B.Bank.means c.open-book.result in
+    let b' = book_of g.L.Ledger.means g.B.Bank.means c.run-answer.new.self in
     let calls = c.args.calls.now in
     let old = c.args.answers.now in
     let new = c.run-answer.new.answers in
