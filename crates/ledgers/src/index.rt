@@ -1,6 +1,9 @@
 // Index ledgers: the newest conflict is looked up.
+ghost use Rattle.std.specs.Prelude.{◌≡◌};
 ghost use Rattle.entries.specs.Items.{flags_of};
-ghost use Rattle.ledgers.specs.Index.{Latest, Tells};
+ghost use Rattle.entries.specs.Lists.{writes};
+ghost use Rattle.ledgers.specs.Index.{Latest, Tells, raised};
+ghost use Rattle.ledgers.specs.Finders.{FitsAdded};
 ghost use Rattle.ledgers.specs.IndexLemmas.{tells-single, tells-trimmed};
 
 use crate::finder::Finder;
@@ -46,7 +49,10 @@ impl Finder for Index {
         Index { last: [0; ITEMS] }
     }
 
-    fn note(&mut self, list: &WriteList, version: u32) {
+    fn note(&mut self, list: &WriteList, version: u32)
+        ensures added { FitsAdded (λ m i. Tells m i.last) self.old (writes list.now) version self.new }
+        ensures index { self.new.last ≡ raised self.old.last (writes list.now) version }
+    {
         for w in list.as_slice() {
             self.last[usize::from(w.item)] = version;
         }

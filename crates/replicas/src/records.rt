@@ -1,4 +1,6 @@
 // One write of a version's set.
+ghost use Rattle.std.specs.Prelude.{◌≡◌};
+
 #[derive(Clone, Copy, PartialEq, Eq, Debug)]
 pub struct Record {
     pub(crate) item: u8,
@@ -13,4 +15,13 @@ impl Record {
         version: 0,
         word: 0,
     };
+}
+
+impl Default for Record {
+    // The blank, with what it is.
+    fn default() -> Record
+        ensures { result ≡ record { item = 0; version = 0; word = 0 } }
+    {
+        Self::BLANK
+    }
 }
