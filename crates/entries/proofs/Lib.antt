@@ -4,3 +4,4 @@ pub mod Puts
 pub mod Searches
 pub mod Arrays
 pub mod Flags
+pub mod Found

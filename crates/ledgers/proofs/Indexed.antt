@@ -53,7 +53,7 @@ module _ (m : LedgerModel) (snapshot : ℕ) (items : List Bool) (last : List ℕ
   none-later : (u : ℕ) → n < u → meets items (fetched m u) ≡ false
   none-later u up = meets-none items (fetched m u) (λ k at. grind (arith, has-below items k, tells.1 k u, latest.0 k))
 
-  latest-some : snapshot < n → Some n ≡ newest m snapshot items
+  pub latest-some : snapshot < n → Some n ≡ newest m snapshot items
   latest-some up =
       let w = latest.1 (omega arith) in
       newest-told m snapshot items low (Some n) (
@@ -63,7 +63,7 @@ module _ (m : LedgerModel) (snapshot : ℕ) (items : List Bool) (last : List ℕ
         λ u lo hi. none-later u lo,
       )
 
-  latest-none : n ≤ snapshot → None ≡ newest m snapshot items
+  pub latest-none : n ≤ snapshot → None ≡ newest m snapshot items
   latest-none upto = newest-told m snapshot items low None (λ u lo hi. none-later u (omega arith))
 
   pub latest-told : then_some (nat_lt snapshot n) n ≡ newest m snapshot items

@@ -27,10 +27,10 @@ module _ (b v : ℕ) (rs : List Record) (k : Kept b v rs) where
   whole : stamped b ss ≡ rs
   whole = let o = k.0 in let e : b + (v - b) ≡ v = omega arith in stamped-cut b (v - b) rs (rw e k.2)
 
-  log-version : b + length ss ≡ v
+  pub log-version : b + length ss ≡ v
   log-version = let o = k.0 in let n = length_cut b (v - b) rs in omega arith
 
-  log-used : length rs ≡ sizes ss
+  pub log-used : length rs ≡ sizes ss
   log-used = ap length (sym whole) ∙ length-stamped b ss
 
   pub log-rises : IsNonDecreasingBy (λ r. r.version) rs
@@ -80,7 +80,7 @@ module _ (b v : ℕ) (rs : List Record) (k : Kept b v rs) where
     push-stamped : rs ++ marked (v + 1) ws ≡ stamped b (ss ++ (ws ∷ []))
     push-stamped = ap (λ ts. ts ++ marked (v + 1) ws) (sym whole) ∙ ap (λ n. stamped b ss ++ marked (n + 1) ws) (sym log-version) ∙ sym (stamped-push b ss ws)
 
-    push-sets : cut b ((v + 1) - b) (rs ++ marked (v + 1) ws) ≡ ss ++ (ws ∷ [])
+    pub push-sets : cut b ((v + 1) - b) (rs ++ marked (v + 1) ws) ≡ ss ++ (ws ∷ [])
     push-sets =
         let o = k.0 in
         ap (cut b ((v + 1) - b)) push-stamped

@@ -1,15 +1,18 @@
 -- What the passes over the records of a ring and the writes of a set find.
-use Rattle.std.proofs.Common.{◌≡◌, ℕ, zero, suc, ◌≤◌, Bool, true, false, cond, eqb, List, [], ◌∷◌, ◌++◌, map, length, drop, reverse, Some, None, Option, sym, refl, ap, ◌∙◌, subst, one-add, arith}
+use Rattle.std.proofs.Common.{◌≡◌, ℕ, zero, suc, ◌+◌, ◌≤◌, ◌<◌, Bool, true, false, cond, eqb, leb, List, [], ◌∷◌, ◌++◌, map, length, take, drop, reverse, Some, None, Option, sym, refl, ap, ◌∙◌, subst, ⊎_elim, one-add, arith}
 use Rattle.std.specs.List.{find, prefix_len}
 use Rattle.std.specs.List.Sorted.{IsNonDecreasingBy, IsPartitionPoint}
 use Rattle.std.specs.Option.{option_map_or, option_or}
-use Rattle.std.proofs.lemmas.List.{reverse-append, drop_at}
-use Rattle.std.proofs.lemmas.List.Folds.{find-append}
-use Rattle.std.proofs.lemmas.List.Sorted.{IsNonDecreasingBy-drop}
-use Rattle.std.proofs.lemmas.Bool.{cond-true, cond-false}
+use Rattle.std.proofs.lemmas.List.{reverse-append, drop_at, length-append, get_or_append_left, get_or-append-add}
+use Rattle.std.proofs.lemmas.List.Folds.{find-append, prefix_len-append}
+use Rattle.std.proofs.lemmas.List.Sums.{prefix_len-le-length, prefix_len_passes, prefix_len_stops}
+use Rattle.std.proofs.Math.Seq.{take-append_seam}
+use Rattle.std.proofs.lemmas.List.Sorted.{IsNonDecreasingBy-drop, IsNonDecreasingBy-take}
+use Rattle.std.proofs.lemmas.Bool.{cases_lt, cond-true, cond-false, eq-eqb, leb-true, leb-false}
+use Rattle.std.proofs.lemmas.Bool.Decides.{nat_tests}
 use Rattle.replicas.specs.declared.records.Record.{Record}
 use Rattle.replicas.specs.Overlay.{newest_word_of, oldest_word_of}
-use Rattle.replicas.specs.Records.{plain}
+use Rattle.replicas.specs.Records.{plain, upto, no_record}
 
 -- the word of a record that is found, or else another
 abbrev pub found : Option Record → ℕ → ℕ
@@ -51,3 +54,31 @@ point-is p (x ∷ xs) (suc i) h q =
 pub rises-right : {X : Type 0} (n : X → ℕ) (xs ys zs : List X) → xs ++ ys ≡ zs → IsNonDecreasingBy n zs → IsNonDecreasingBy n ys
 rises-right n xs ys zs is r =
     subst (IsNonDecreasingBy n) (ap (drop (length xs)) (sym is) ∙ drop_at xs ys (length xs) refl) (IsNonDecreasingBy-drop n (length xs) zs r)
+
+-- a list whose numbers do not fall, in two parts: nor do those of the first
+pub rises-left : {X : Type 0} (n : X → ℕ) (xs ys zs : List X) → xs ++ ys ≡ zs → IsNonDecreasingBy n zs → IsNonDecreasingBy n xs
+rises-left n xs ys zs is r =
+    subst (IsNonDecreasingBy n) (ap (take (length xs)) (sym is) ∙ take-append_seam xs ys) (IsNonDecreasingBy-take n (length xs) zs r)
+
+-- where the second part begins with no record up to a version, all that are lie in the first
+pub upto-first : (to : ℕ) (xs ys zs : List Record) → xs ++ ys ≡ zs → upto to ys ≡ 0 → upto to zs ≡ upto to xs
+upto-first to xs ys zs is none =
+    let a = prefix_len-append (λ r. leb r.version to) xs ys in
+    let b = prefix_len-le-length (λ r. leb r.version to) xs in
+    ap (upto to) (sym is) ∙ grind (arith, nat_tests)
+
+-- where it begins with one, all of the first part come before it
+pub upto-second : (to : ℕ) (xs ys zs : List Record) → xs ++ ys ≡ zs → IsNonDecreasingBy (λ r. r.version) zs → 0 < upto to ys → upto to zs ≡ length xs + upto to ys
+upto-second to xs ys zs is r some =
+    let b = prefix_len-le-length (λ r. leb r.version to) xs in
+    let full : upto to xs ≡ length xs =
+    ⊎_elim
+    (λ (less : upto to xs < length xs).
+    let m = length-append xs ys in
+    let n = prefix_len-le-length (λ r. leb r.version to) ys in
+    let low = leb-false _ _ (prefix_len_stops (λ r. leb r.version to) xs no_record less) in
+    let high = leb-true _ _ (prefix_len_passes (λ r. leb r.version to) ys 0 no_record some) in
+    let up = subst (IsNonDecreasingBy (λ r. r.version)) (sym is) r (upto to xs) (length xs + 0) no_record (omega arith) (omega arith) in
+    absurd (omega (arith, ap (λ x. x.version) (get_or_append_left xs ys no_record (upto to xs) less), ap (λ x. x.version) (get_or-append-add xs ys 0 no_record))))
+    (λ (more : length xs ≤ upto to xs). omega arith) (cases_lt (upto to xs) (length xs)) in
+    ap (upto to) (sym is) ∙ prefix_len-append (λ r. leb r.version to) xs ys ∙ cond-true _ _ _ (eq-eqb _ _ full)

@@ -42,11 +42,11 @@ length-reworded : (c : List ℕ) (ws : List Write) → length (reworded c ws) �
 length-reworded c [] = refl
 length-reworded c (w ∷ ws) = ap suc (length-reworded c ws)
 
-sizes-redone : (c : List ℕ) (ss : List (List Write)) → sizes (redone c ss) ≡ sizes ss
+pub sizes-redone : (c : List ℕ) (ss : List (List Write)) → sizes (redone c ss) ≡ sizes ss
 sizes-redone c [] = refl
 sizes-redone c (s ∷ ss) = rw (length-reworded, sizes-redone c ss)
 
-length-redone : (c : List ℕ) (ss : List (List Write)) → length (redone c ss) ≡ length ss
+pub length-redone : (c : List ℕ) (ss : List (List Write)) → length (redone c ss) ≡ length ss
 length-redone c [] = refl
 length-redone c (s ∷ ss) = ap suc (length-redone c ss)
 

@@ -32,7 +32,7 @@ impl Keeping for AtBase {
     }
 
     fn forget(replica: &mut LogReplica<AtBase>, to: u32) {
-        replica.log.lay(replica.page, to);
-        replica.log.forget(to);
+        let end = replica.log.lay(replica.page, to);
+        replica.log.rebase(to, end);
     }
 }

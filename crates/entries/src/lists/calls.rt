@@ -1,7 +1,8 @@
 // The calls on a write list, each by the list of its writes.
-ghost use Rattle.std.specs.Prelude.{◌≡◌, ℕ, ◌+◌, ◌<◌, ◌≤◌, true, [], length, take, is_ok, if◌then◌else◌, Some, nat_eq};
-ghost use Rattle.std.specs.List.{insert};
-ghost use Rattle.entries.specs.Writes.{word_of, Searched};
+ghost use Rattle.std.specs.Prelude.{◌≡◌, ◌==◌, ℕ, ◌+◌, ◌<◌, ◌≤◌, true, [], length, take, is_ok, if◌then◌else◌, Some, nat_eq};
+ghost use Rattle.std.specs.List.{insert, find};
+ghost use Rattle.std.specs.Option.{option_map};
+ghost use Rattle.entries.specs.Writes.{word_of, place, Searched};
 ghost use Rattle.entries.specs.Lists.{writes, put_answer, after_put};
 
 use super::{ListFull, MOST, WriteList};
@@ -46,14 +47,33 @@ impl WriteList {
     pub fn get(&self, item: u8) -> Option<u64>
         ensures { result ≡ word_of (writes self.now) item }
     {
-        self.search(item).ok().map(|at| self.slots[at].word)
+        self.write_of(item).map(|w| w.word)
     }
 
-    // Where the item's write stands, or where it would stand, as the library's search answers it.
+    // The write of the item. A pass over so few writes takes less time than a search by halves.
+    fn write_of(&self, item: u8) -> Option<&Write>
+        ensures { option_map (λ w. w.now) result ≡ find (λ w. w.item == item) (writes self.now) }
+    {
+        self.as_slice().iter().find(|w| w.item == item)
+    }
+
+    // How many writes are of items below this one.
+    fn place(&self, item: u8) -> usize
+        ensures { result ≡ place (writes self.now) item }
+    {
+        self.as_slice().iter().take_while(|w| w.item < item).count()
+    }
+
+    // Where the item's write stands, or where it would stand, as a search of the library answers it.
     fn search(&self, item: u8) -> Result<usize, usize>
         ensures { Searched (writes self.now) item result }
     {
-        self.as_slice().binary_search_by_key(&item, |w| w.item)
+        let at = self.place(item);
+        if at < self.len && self.slots[at].item == item {
+            Ok(at)
+        } else {
+            Err(at)
+        }
     }
 
     // Gives the item the word, in place of an earlier one; a ninth item is refused, and the list stays.

@@ -95,12 +95,14 @@ impl<'a> Log<'a> {
         scans::oldest_word(&self.ring, end, item, word)
     }
 
-    // Lays the sets up to a version over the page.
-    pub(crate) fn lay(&self, page: &mut [u64], to: u32)
-        ensures { page.new ≡ laid page.old (joined (take (to - self.now.base) (sets_of self.now))) }
+    // Lays the sets up to a version over the page, and answers how many records they have.
+    pub(crate) fn lay(&self, page: &mut [u64], to: u32) -> usize
+        ensures page { page.new ≡ laid page.old (joined (take (to - self.now.base) (sets_of self.now))) }
+        ensures end { result ≡ upto to (records self.now) }
     {
         let end = self.end_of(to);
         scans::lay_over(page, &self.ring, end);
+        end
     }
 
     // Takes the set as that of the next version, which it answers, where there are so many items.
@@ -135,6 +137,15 @@ impl<'a> Log<'a> {
         ensures { Holds self.new to (drop (to - self.old.base) (sets_of self.old)) (size self.old.ring) }
     {
         let end = self.end_of(to);
+        self.rebase(to, end);
+    }
+
+    // The same, where it is known how many records these sets have.
+    pub(crate) fn rebase(&mut self, to: u32, end: usize)
+        requires kept { has_version self.old to ≡ true }
+        requires end { end ≡ upto to (records self.old) }
+        ensures { Holds self.new to (drop (to - self.old.base) (sets_of self.old)) (size self.old.ring) }
+    {
         self.ring.drop_first(end);
         self.base = to;
     }

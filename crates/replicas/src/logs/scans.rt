@@ -1,5 +1,5 @@
 // Passes over the records of a ring and the writes of a set.
-ghost use Rattle.std.specs.Prelude.{◌≡◌, ◌+◌, ◌≤◌, false, ◌==◌, ◌++◌, map, length, take, drop, reverse};
+ghost use Rattle.std.specs.Prelude.{◌≡◌, ◌+◌, ◌≤◌, false, ◌==◌, ◌++◌, map, length, take, drop, reverse, nat_lt};
 ghost use Rattle.std.specs.List.{find};
 ghost use Rattle.std.specs.Option.{option_map};
 ghost use Rattle.std.specs.List.Sorted.{IsNonDecreasingBy};
@@ -19,26 +19,39 @@ fn end_in(records: &[Record], to: u32) -> usize
     records.partition_point(|r| r.version <= to)
 }
 
-// The newest of these records that writes the item. The two directions have a chain each: one function over any iterator
+// The newest of these records that writes the item.
+fn last_of(records: &[Record], item: usize) -> Option<&Record>
+    ensures { option_map (λ r. r.now) result ≡ find (λ r. r.item == item) (reverse records.now) }
+{
+    records.iter().rev().find(|r| usize::from(r.item) == item)
+}
+
+// The oldest of these records that writes the item. The two directions have a search each: one function over any iterator
 // would have to speak of the runs of an iterator, and not of a list.
+fn first_of(records: &[Record], item: usize) -> Option<&Record>
+    ensures { option_map (λ r. r.now) result ≡ find (λ r. r.item == item) records.now }
+{
+    records.iter().find(|r| usize::from(r.item) == item)
+}
+
+// The newest of the records in two parts that writes the item: the newer part is asked first.
 fn newest_of<'r>(older: &'r [Record], newer: &'r [Record], item: usize) -> Option<&'r Record>
     ensures { option_map (λ r. r.now) result ≡ find (λ r. r.item == item) (reverse newer.now ++ reverse older.now) }
 {
-    newer
-        .iter()
-        .rev()
-        .chain(older.iter().rev())
-        .find(|r| usize::from(r.item) == item)
+    match last_of(newer, item) {
+        Some(r) => Some(r),
+        None => last_of(older, item),
+    }
 }
 
-// The oldest of these records that writes the item.
+// The oldest of them: the older part is asked first.
 fn oldest_of<'r>(older: &'r [Record], newer: &'r [Record], item: usize) -> Option<&'r Record>
     ensures { option_map (λ r. r.now) result ≡ find (λ r. r.item == item) (older.now ++ newer.now) }
 {
-    older
-        .iter()
-        .chain(newer.iter())
-        .find(|r| usize::from(r.item) == item)
+    match first_of(older, item) {
+        Some(r) => Some(r),
+        None => first_of(newer, item),
+    }
 }
 
 // Lays the words of these records over the page, oldest first.
@@ -53,17 +66,24 @@ fn lay(page: &mut [u64], records: &[Record])
     }
 }
 
+// Whether the first of these records is of a version up to `to`.
+fn begins_upto(records: &[Record], to: u32) -> bool
+    ensures { result ≡ nat_lt 0 (upto to records.now) }
+{
+    records.first().is_some_and(|r| r.version <= to)
+}
+
 // How many records are of versions up to `to`: they come before all others.
 pub(crate) fn end_of(ring: &Ring<Record>, to: u32) -> usize
     requires { IsNonDecreasingBy (λ r. r.version) (held ring.now) }
     ensures { result ≡ upto to (held ring.now) }
 {
     let (older, newer) = ring.range(0, ring.len());
-    let end = end_in(older, to);
-    if end < older.len() {
-        end
+    // the first of the newer part tells in which part the end lies
+    if begins_upto(newer, to) {
+        older.len() + end_in(newer, to)
     } else {
-        end + end_in(newer, to)
+        end_in(older, to)
     }
 }
 
