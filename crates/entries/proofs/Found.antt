@@ -5,6 +5,7 @@ use Rattle.std.specs.Option.{option_map}
 use Rattle.entries.specs.declared.writes.Write.{Write}
 use Rattle.entries.specs.Writes.{word_of}
 
+-- the word of a write that a test chooses, or else of what was found otherwise
 word-cond : (b : Bool) (w : Write) (o : Option Write) → option_map (λ v. v.word) (cond b (Some w) o) ≡ cond b (Some w.word) (option_map (λ v. v.word) o)
 word-cond true w o = refl
 word-cond false w o = refl

@@ -37,6 +37,7 @@ module _ (ws : List Write) (r : rising ws ≡ true) (i at : ℕ) (is : at ≡ pl
   least : at < length ws → i ≤ item_at ws at
   least l = rw is (ltb-false _ _ (prefix_len_stops (λ w. ltb w.item i) ws no_write (omega arith)))
 
+  -- the writes before its place are of lesser items, and those after it of greater ones
   another : (k : ℕ) → k < length ws → item_at ws k ≢ i
   another k l e =
       elim (cases_lt k at) [
